@@ -1,0 +1,349 @@
+-- What a good machine says: each condition of Good, taken out.
+use mathlib.Core.Bool.{Bool, true, false, _&&_, _||_, and-false, false≢true}
+use mathlib.Core.List.{List}
+use mathlib.Core.Path.{_≡_}
+use Prim.Native.Nat.{ℕ, suc, _+_, _*_, _^_, _≤_, _<_}
+use native.Mathlib.Omega.{arith}
+use borrow.Author.Tests.{eq-eqb, ne-eqb, eqb-true, leb-true, leb-false, ltb-true, ltb-false, lt-leb, le-leb, lt-ltb}
+use lib.Dec.{leb, eqb}
+use lib.ListN.{length, getD}
+use lib.Pow.{pow-pos}
+use Rattle.sets.specs.declared.Tag.{Tag}
+use Rattle.tables.specs.declared.Conf.{Conf}
+use Rattle.tables.specs.declared.Client.{Client}
+use Rattle.tables.specs.declared.Directory.{Directory}
+use Rattle.tables.specs.declared.Entry.{Entry}
+use Rattle.tables.specs.declared.Message.{Message}
+use Rattle.tables.specs.Kinds.{senderOf, receiverOf, manyOf, carriesSet, carriesTag, carriesPage, carriesNumber}
+use Rattle.tables.specs.Phases.{asksDirectories, asksReplicas, usesReplicaSet, usesTag, usesPage, roundsLeft}
+use Rattle.tables.specs.Rows.{some?}
+use Rattle.tables.specs.Tables.{Machine, Replica, noClient, noDirectory, noEntry, noReplica, noMessage, clientAt, directoryAt, replicaAt, slotAt, isFree, isSecured, isEmpty}
+use Rattle.tables.specs.Words.{entryWords, machineOf}
+use Rattle.inspect.specs.Good.{between, zeros, field, eachRow, goodNumbers, goodTag, zeroTag, goodSet, goodClient, goodDirectory, goodEntry, tagsOnce, goodReplica, goodMessage, clientRow, directoryRow, replicaRow, slotRow, goodMachine, good}
+use Rattle.inspect.specs.Inner.{Few}
+use Rattle.sets.proofs.Tests.{passes-by}
+use Rattle.inspect.proofs.Tests.{le-by, eq-by, field-any, field-used, field-zero}
+use Rattle.inspect.proofs.Each.{each-at, row-passes}
+
+-- ---- the seven numbers
+
+pub record NumbersFacts (k : Conf) : Type 0 where
+  pub some-clients : 1 ≤ k .clients
+  pub few-clients : k .clients ≤ 8
+  pub some-directories : 1 ≤ k .directories
+  pub few-directories : k .directories ≤ 5
+  pub some-replicas : 1 ≤ k .replicas
+  pub few-replicas : k .replicas ≤ 7
+  pub few-crashes : k .f ≤ 3
+  pub enough-replicas : 2 * k .f + 1 ≤ k .replicas
+  pub some-read : 1 ≤ k .rq
+  pub read-within : k .rq ≤ k .directories
+  pub some-written : 1 ≤ k .wq
+  pub written-within : k .wq ≤ k .directories
+  pub quorums-meet : k .directories < k .rq + k .wq
+  pub some-rounds : 3 ≤ k .top
+  pub top-fits : k .top ≤ 4294967295
+
+module _ (k : Conf) (g : goodNumbers k ≡ true) where
+  at-most : (a b : ℕ) → (leb a b ≡ false → goodNumbers k ≡ false) → a ≤ b
+  at-most a b h = le-by a b (goodNumbers k) h g
+
+  pub numbers-facts : NumbersFacts k
+  unfolding goodNumbers
+  numbers-facts =
+      record {
+        some-clients = at-most 1 (k .clients) (λ f. simp f);
+        few-clients = at-most (k .clients) 8 (λ f. simp (f, and-false));
+        some-directories = at-most 1 (k .directories) (λ f. simp (f, and-false));
+        few-directories = at-most (k .directories) 5 (λ f. simp (f, and-false));
+        some-replicas = at-most 1 (k .replicas) (λ f. simp (f, and-false));
+        few-replicas = at-most (k .replicas) 7 (λ f. simp (f, and-false));
+        few-crashes = at-most (k .f) 3 (λ f. simp (f, and-false));
+        enough-replicas = at-most (2 * k .f + 1) (k .replicas) (λ f. simp (f, and-false));
+        some-read = at-most 1 (k .rq) (λ f. simp (f, and-false));
+        read-within = at-most (k .rq) (k .directories) (λ f. simp (f, and-false));
+        some-written = at-most 1 (k .wq) (λ f. simp (f, and-false));
+        written-within = at-most (k .wq) (k .directories) (λ f. simp (f, and-false));
+        quorums-meet = at-most (suc (k .directories)) (k .rq + k .wq) (λ f. simp (f, and-false));
+        some-rounds = at-most 3 (k .top) (λ f. simp (f, and-false));
+        top-fits = at-most (k .top) 4294967295 (λ f. simp (f, and-false));
+      }
+
+  pub few : Few k
+  few = let n = numbers-facts in record { directories = omega arith; replicas = omega arith }
+
+-- ---- a tag
+
+pub record TagFacts (k : Conf) (t : Tag) : Type 0 where
+  pub number : t .number ≤ k .top
+  pub client : t .client ≤ k .clients
+  pub first : t .number ≡ 0 → t .client ≡ 0
+  pub later : t .client ≡ 0 → t .number ≡ 0
+
+pub tag-facts : (k : Conf) (t : Tag) → goodTag k t ≡ true → TagFacts k t
+tag-facts k t g =
+    record {
+      number = le-by (t .number) (k .top) (goodTag k t) (λ f. simp f) g;
+      client = le-by (t .client) (k .clients) (goodTag k t) (λ f. simp (f, and-false)) g;
+      first = λ z. eq-by (t .client) 0 (goodTag k t) (λ f. simp (f, lt-leb 1 (t .number) (omega arith), and-false)) g;
+      later = λ z. eq-by (t .number) 0 (goodTag k t) (λ f. simp (f, lt-leb 1 (t .client) (omega arith), and-false)) g;
+    }
+
+-- a tag and a set are in range, used or not
+tag-in : (k : Conf) (used : Bool) (t : Tag) → field used (goodTag k t) (zeroTag t) ≡ true → TagFacts k t
+tag-in k used t g = tag-facts k t (field-any used (goodTag k t) (zeroTag t) none g)
+  where
+    none : zeroTag t ≡ true → goodTag k t ≡ true
+    none z =
+        let n : t .number ≡ 0 = eq-by (t .number) 0 (zeroTag t) (λ f. simp f) z in
+        let c : t .client ≡ 0 = eq-by (t .client) 0 (zeroTag t) (λ f. simp (f, and-false)) z in
+        simp (eq-eqb _ _ n, eq-eqb _ _ c, le-leb (t .number) (k .top) (omega arith), le-leb (t .client) (k .clients) (omega arith))
+
+set-in : (n : ℕ) (used : Bool) (s : ℕ) → field used (goodSet n s) (eqb s 0) ≡ true → s < 2 ^ n
+set-in n used s g =
+    ltb-true _ _
+    (field-any used (goodSet n s) (eqb s 0) (λ z. lt-ltb s (2 ^ n) (omega (arith, eqb-true s 0 z, pow-pos n))) g)
+
+above-none : (n s : ℕ) → goodSet n s ≡ false → eqb s 0 ≡ false
+above-none n s f = ne-eqb s 0 (λ (z : s ≡ 0). omega (arith, ltb-false s (2 ^ n) f, pow-pos n))
+
+-- ---- a client's row
+
+pub record ClientFacts (k : Conf) (w : Client) : Type 0 where
+  pub down : w .down ≤ 1
+  pub phase : w .phase ≤ 6
+  pub numbered : 1 ≤ w .phase → 1 ≤ w .number
+  pub rounds : w .number + roundsLeft (w .phase) ≤ k .top
+  pub asked : asksDirectories (w .phase) ≡ true → w .answered < 2 ^ k .directories
+  pub asked-replicas : w .phase ≡ 5 → w .answered < 2 ^ k .replicas
+  pub unasked : asksDirectories (w .phase) ≡ false → asksReplicas (w .phase) ≡ false → w .answered ≡ 0
+  pub set : w .replicas < 2 ^ k .replicas
+  pub no-set : usesReplicaSet (w .phase) ≡ false → w .replicas ≡ 0
+  pub tag : TagFacts k (w .tag)
+  pub no-tag : usesTag (w .phase) ≡ false → zeroTag (w .tag) ≡ true
+  pub spare : w .spare ≡ 0
+  pub no-page : usesPage (w .phase) ≡ false → zeros (w .page) ≡ true
+
+-- the answered set, by what the phase asks
+answeredIn : Conf → ℕ → ℕ → Bool
+answeredIn k p s = asksDirectories p && goodSet (k .directories) s || asksReplicas p && goodSet (k .replicas) s || eqb s 0
+
+not-five : (p : ℕ) → asksDirectories p ≡ true → eqb p 5 ≡ false
+not-five p a = ne-eqb p 5 (λ q. false≢true (rw q at a))
+
+module _ (k : Conf) (p s : ℕ) (g : answeredIn k p s ≡ true) where
+  answered-directories : asksDirectories p ≡ true → s < 2 ^ k .directories
+  unfolding answeredIn
+  answered-directories a =
+      ltb-true _ _
+      (passes-by (goodSet (k .directories) s) (answeredIn k p s)
+      (λ f. simp (f, not-five p a, above-none (k .directories) s f, and-false))
+      g)
+
+  answered-replicas : p ≡ 5 → s < 2 ^ k .replicas
+  unfolding answeredIn
+  answered-replicas e =
+      ltb-true _ _
+      (passes-by (goodSet (k .replicas) s) (answeredIn k p s)
+      (λ f. simp (e, f, above-none (k .replicas) s f))
+      g)
+
+  answered-none : asksDirectories p ≡ false → asksReplicas p ≡ false → s ≡ 0
+  unfolding answeredIn
+  answered-none a b = eq-by s 0 (answeredIn k p s) (λ f. simp (f, a, b)) g
+
+module _ (k : Conf) (w : Client) (g : goodClient k w ≡ true) where
+  client-tag : field (usesTag (w .phase)) (goodTag k (w .tag)) (zeroTag (w .tag)) ≡ true
+  unfolding goodClient
+  client-tag = passes-by (field (usesTag (w .phase)) (goodTag k (w .tag)) (zeroTag (w .tag))) (goodClient k w) (λ f. simp (f, and-false)) g
+
+  client-set : field (usesReplicaSet (w .phase)) (goodSet (k .replicas) (w .replicas)) (eqb (w .replicas) 0) ≡ true
+  unfolding goodClient
+  client-set =
+      passes-by (field (usesReplicaSet (w .phase)) (goodSet (k .replicas) (w .replicas)) (eqb (w .replicas) 0)) (goodClient k w) (λ f. simp (f, and-false)) g
+
+  client-answered : answeredIn k (w .phase) (w .answered) ≡ true
+  unfolding goodClient answeredIn
+  client-answered = passes-by (answeredIn k (w .phase) (w .answered)) (goodClient k w) (λ f. simp (f, and-false)) g
+
+  pub client-facts : ClientFacts k w
+  unfolding goodClient
+  client-facts =
+      record {
+        down = le-by (w .down) 1 (goodClient k w) (λ f. simp f) g;
+        phase = le-by (w .phase) 6 (goodClient k w) (λ f. simp (f, and-false)) g;
+        numbered = λ h. le-by 1 (w .number) (goodClient k w) (λ f. simp (f, ne-eqb (w .phase) 0 (λ z. omega arith), and-false)) g;
+        rounds = le-by (w .number + roundsLeft (w .phase)) (k .top) (goodClient k w) (λ f. simp (f, and-false)) g;
+        asked = answered-directories k (w .phase) (w .answered) client-answered;
+        asked-replicas = answered-replicas k (w .phase) (w .answered) client-answered;
+        unasked = answered-none k (w .phase) (w .answered) client-answered;
+        set = set-in (k .replicas) (usesReplicaSet (w .phase)) (w .replicas) client-set;
+        no-set = λ u. eqb-true _ _ (field-zero _ _ _ u client-set);
+        tag = tag-in k (usesTag (w .phase)) (w .tag) client-tag;
+        no-tag = λ u. field-zero _ _ _ u client-tag;
+        spare = eq-by (w .spare) 0 (goodClient k w) (λ f. simp (f, and-false)) g;
+        no-page = λ u. passes-by (zeros (w .page)) (goodClient k w) (λ f. simp (f, u, and-false)) g;
+      }
+
+-- ---- a directory's row
+
+pub record DirectoryFacts (k : Conf) (d : Directory) : Type 0 where
+  pub down : d .down ≤ 1
+  pub tag : TagFacts k (d .tag)
+  pub set : d .set < 2 ^ k .replicas
+
+pub directory-facts : (k : Conf) (d : Directory) → goodDirectory k d ≡ true → DirectoryFacts k d
+unfolding goodDirectory
+directory-facts k d g =
+    record {
+      down = le-by (d .down) 1 (goodDirectory k d) (λ f. simp f) g;
+      tag = tag-facts k (d .tag) (passes-by (goodTag k (d .tag)) (goodDirectory k d) (λ f. simp (f, and-false)) g);
+      set = ltb-true _ _ (passes-by (goodSet (k .replicas) (d .set)) (goodDirectory k d) (λ f. simp (f, and-false)) g);
+    }
+
+-- ---- a replica and its entries
+
+-- of an entry in use
+pub record EntryFacts (k : Conf) (e : Entry) : Type 0 where
+  pub state : e .state ≤ 2
+  pub tag : TagFacts k (e .tag)
+  pub spare : e .spare ≡ 0
+
+pub entry-facts : (k : Conf) (e : Entry) → goodEntry k e ≡ true → isFree e ≡ false → EntryFacts k e
+unfolding goodEntry
+entry-facts k e g u =
+    record {
+      state = le-by (e .state) 2 (goodEntry k e) (λ f. simp (u, f)) g;
+      tag = tag-facts k (e .tag) (passes-by (goodTag k (e .tag)) (goodEntry k e) (λ f. simp (u, f, and-false)) g);
+      spare = eq-by (e .spare) 0 (goodEntry k e) (λ f. simp (u, f, and-false)) g;
+    }
+
+pub free-zero : (k : Conf) (e : Entry) → goodEntry k e ≡ true → isFree e ≡ true → zeros (entryWords e) ≡ true
+unfolding goodEntry
+free-zero k e g u = rw u at g
+
+pub record ReplicaFacts (k : Conf) (r : Replica) : Type 0 where
+  pub down : r .down ≤ 1
+  pub entries : (j : ℕ) → j < length (r .entries) → goodEntry k (getD (r .entries) j noEntry) ≡ true
+  pub once : tagsOnce (r .entries) ≡ true
+  pub secured : some? isSecured (r .entries) ≡ true
+
+pub replica-facts : (k : Conf) (r : Replica) → goodReplica k r ≡ true → ReplicaFacts k r
+unfolding goodReplica
+replica-facts k r g =
+    let all : eachRow (λ e. goodEntry k) 1 (r .entries) ≡ true =
+    passes-by (eachRow (λ e. goodEntry k) 1 (r .entries)) (goodReplica k r) (λ f. simp (f, and-false)) g in
+    record {
+      down = le-by (r .down) 1 (goodReplica k r) (λ f. simp f) g;
+      entries = λ j h. each-at (λ e. goodEntry k) 1 (r .entries) j noEntry h all;
+      once = passes-by (tagsOnce (r .entries)) (goodReplica k r) (λ f. simp (f, and-false)) g;
+      secured = passes-by (some? isSecured (r .entries)) (goodReplica k r) (λ f. simp (f, and-false)) g;
+    }
+
+-- ---- a message
+
+pub record MessageFacts (k : Conf) (x : Message) : Type 0 where
+  pub kind : x .kind ≤ 15
+  pub some-sender : 1 ≤ x .sender
+  pub sender : x .sender ≤ manyOf k (senderOf (x .kind))
+  pub some-receiver : 1 ≤ x .receiver
+  pub receiver : x .receiver ≤ manyOf k (receiverOf (x .kind))
+  pub tag : TagFacts k (x .tag)
+  pub no-tag : carriesTag (x .kind) ≡ false → zeroTag (x .tag) ≡ true
+  pub set : x .set < 2 ^ k .replicas
+  pub no-set : carriesSet (x .kind) ≡ false → x .set ≡ 0
+  pub numbered : carriesNumber (x .kind) ≡ true → 1 ≤ x .number
+  pub number : x .number ≤ k .top
+  pub no-number : carriesNumber (x .kind) ≡ false → x .number ≡ 0
+  pub spare : x .spare ≡ 0
+  pub no-page : carriesPage (x .kind) ≡ false → zeros (x .page) ≡ true
+
+module _ (k : Conf) (x : Message) (g : goodMessage k x ≡ true) where
+  message-tag : field (carriesTag (x .kind)) (goodTag k (x .tag)) (zeroTag (x .tag)) ≡ true
+  unfolding goodMessage
+  message-tag = passes-by (field (carriesTag (x .kind)) (goodTag k (x .tag)) (zeroTag (x .tag))) (goodMessage k x) (λ f. simp (f, and-false)) g
+
+  message-set : field (carriesSet (x .kind)) (goodSet (k .replicas) (x .set)) (eqb (x .set) 0) ≡ true
+  unfolding goodMessage
+  message-set =
+      passes-by (field (carriesSet (x .kind)) (goodSet (k .replicas) (x .set)) (eqb (x .set) 0)) (goodMessage k x) (λ f. simp (f, and-false)) g
+
+  message-number : field (carriesNumber (x .kind)) (between 1 (k .top) (x .number)) (eqb (x .number) 0) ≡ true
+  unfolding goodMessage
+  message-number =
+      passes-by (field (carriesNumber (x .kind)) (between 1 (k .top) (x .number)) (eqb (x .number) 0)) (goodMessage k x) (λ f. simp (f, and-false)) g
+
+  at-top : leb (x .number) (k .top) ≡ true
+  at-top =
+      passes-by (leb (x .number) (k .top)) (field (carriesNumber (x .kind)) (between 1 (k .top) (x .number)) (eqb (x .number) 0))
+      (λ f. simp (f, ne-eqb (x .number) 0 (λ (z : x .number ≡ 0). omega (arith, leb-false (x .number) (k .top) f)), and-false))
+      message-number
+
+  pub message-facts : MessageFacts k x
+  unfolding goodMessage
+  message-facts =
+      record {
+        kind = le-by (x .kind) 15 (goodMessage k x) (λ f. simp f) g;
+        some-sender = le-by 1 (x .sender) (goodMessage k x) (λ f. simp (f, and-false)) g;
+        sender = le-by (x .sender) (manyOf k (senderOf (x .kind))) (goodMessage k x) (λ f. simp (f, and-false)) g;
+        some-receiver = le-by 1 (x .receiver) (goodMessage k x) (λ f. simp (f, and-false)) g;
+        receiver = le-by (x .receiver) (manyOf k (receiverOf (x .kind))) (goodMessage k x) (λ f. simp (f, and-false)) g;
+        tag = tag-in k (carriesTag (x .kind)) (x .tag) message-tag;
+        no-tag = λ u. field-zero _ _ _ u message-tag;
+        set = set-in (k .replicas) (carriesSet (x .kind)) (x .set) message-set;
+        no-set = λ u. eqb-true _ _ (field-zero _ _ _ u message-set);
+        numbered = λ u. le-by 1 (x .number) (between 1 (k .top) (x .number)) (λ f. simp f) (field-used _ _ _ u message-number);
+        number = leb-true _ _ at-top;
+        no-number = λ u. eqb-true _ _ (field-zero _ _ _ u message-number);
+        spare = eq-by (x .spare) 0 (goodMessage k x) (λ f. simp (f, and-false)) g;
+        no-page = λ u. passes-by (zeros (x .page)) (goodMessage k x) (λ f. simp (f, u, and-false)) g;
+      }
+
+-- ---- the tables
+
+module _ (M : Machine) (g : goodMachine M ≡ true) where
+  pub numbers-pass : goodNumbers (M .conf) ≡ true
+  unfolding goodMachine
+  numbers-pass = passes-by (goodNumbers (M .conf)) (goodMachine M) (λ f. simp f) g
+
+  pub clients-pass : eachRow (clientRow (M .conf)) 1 (M .clients) ≡ true
+  unfolding goodMachine
+  clients-pass = passes-by (eachRow (clientRow (M .conf)) 1 (M .clients)) (goodMachine M) (λ f. simp (f, and-false)) g
+
+  pub directories-pass : eachRow (directoryRow (M .conf)) 1 (M .directories) ≡ true
+  unfolding goodMachine
+  directories-pass = passes-by (eachRow (directoryRow (M .conf)) 1 (M .directories)) (goodMachine M) (λ f. simp (f, and-false)) g
+
+  pub replicas-pass : eachRow (replicaRow (M .conf)) 1 (M .replicas) ≡ true
+  unfolding goodMachine
+  replicas-pass = passes-by (eachRow (replicaRow (M .conf)) 1 (M .replicas)) (goodMachine M) (λ f. simp (f, and-false)) g
+
+  pub slots-pass : eachRow (slotRow (M .conf)) 1 (M .slots) ≡ true
+  unfolding goodMachine
+  slots-pass = passes-by (eachRow (slotRow (M .conf)) 1 (M .slots)) (goodMachine M) (λ f. simp (f, and-false)) g
+
+  -- a row in use
+  pub client-good : (c : ℕ) → 1 ≤ c → c ≤ M .conf .clients → c ≤ length (M .clients) → goodClient (M .conf) (clientAt M c) ≡ true
+  unfolding clientRow
+  client-good c l u h = rw (le-leb c (M .conf .clients) u) at (row-passes (clientRow (M .conf)) (M .clients) noClient c l h clients-pass)
+
+  pub directory-good : (d : ℕ) → 1 ≤ d → d ≤ M .conf .directories → d ≤ length (M .directories) → goodDirectory (M .conf) (directoryAt M d) ≡ true
+  unfolding directoryRow
+  directory-good d l u h =
+      rw (le-leb d (M .conf .directories) u) at (row-passes (directoryRow (M .conf)) (M .directories) noDirectory d l h directories-pass)
+
+  pub replica-good : (r : ℕ) → 1 ≤ r → r ≤ M .conf .replicas → r ≤ length (M .replicas) → goodReplica (M .conf) (replicaAt M r) ≡ true
+  unfolding replicaRow
+  replica-good r l u h = rw (le-leb r (M .conf .replicas) u) at (row-passes (replicaRow (M .conf)) (M .replicas) noReplica r l h replicas-pass)
+
+  pub slot-good : (s : ℕ) → 1 ≤ s → s ≤ length (M .slots) → slotRow (M .conf) s (slotAt M s) ≡ true
+  slot-good s l h = row-passes (slotRow (M .conf)) (M .slots) noMessage s l h slots-pass
+
+  pub message-good : (s : ℕ) → 1 ≤ s → s ≤ length (M .slots) → isEmpty (slotAt M s) ≡ false → goodMessage (M .conf) (slotAt M s) ≡ true
+  unfolding slotRow
+  message-good s l h u = rw u at (slot-good s l h)
+
+-- of a buffer
+pub good-machine : (m : List ℕ) → good m ≡ true → goodMachine (machineOf m) ≡ true
+unfolding good
+good-machine m g = g

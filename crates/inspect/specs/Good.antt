@@ -1,0 +1,145 @@
+-- "A bad machine is one where .. Nothing else is bad": `good` is true where the machine is not bad, and false where it is.
+-- Each line of a conjunction is one of the paper's conditions.
+use mathlib.Core.Bool.{Bool, true, false, not, _&&_, _||_}
+use mathlib.Core.List.{List, [], _∷_}
+use Prim.Native.Nat.{ℕ, suc, _+_, _*_, _^_}
+use lib.Dec.{leb, ltb, eqb}
+use Rattle.sets.specs.Choice.{if_then_else_}
+use Rattle.sets.specs.declared.Tag.{Tag}
+use Rattle.tables.specs.declared.Conf.{Conf}
+use Rattle.tables.specs.declared.Party.{Party}
+use Rattle.tables.specs.declared.Client.{Client}
+use Rattle.tables.specs.declared.Directory.{Directory}
+use Rattle.tables.specs.declared.Entry.{Entry}
+use Rattle.tables.specs.declared.Message.{Message}
+use Rattle.tables.specs.Rows.{some?}
+use Rattle.tables.specs.Tables.{Replica, Machine, Page, isFree, isSecured, hasTag, isEmpty}
+use Rattle.tables.specs.Words.{clientWords, directoryWords, downWords, entryWords, replicaWords, messageWords, machineOf}
+use Rattle.tables.specs.Kinds.{senderOf, receiverOf, manyOf, carriesSet, carriesTag, carriesPage, carriesNumber}
+use Rattle.tables.specs.Phases.{isIdle, usesTag, asksDirectories, asksReplicas, usesReplicaSet, usesPage, roundsLeft}
+
+-- ---- tests
+
+abbrev pub between : ℕ → ℕ → ℕ → Bool
+between low high n = leb low n && leb n high
+
+-- every word is zero
+unfoldable pub zeros : List ℕ → Bool
+zeros [] = true
+zeros (n ∷ l) = eqb n 0 && zeros l
+
+-- a field in use is in range, and one not in use is zero
+abbrev pub field : (used inRange isZero : Bool) → Bool
+field used inRange isZero = used && inRange || not used && isZero
+
+-- every row passes its test, which is told the row's number
+abbrev pub eachRow : {A : Type 0} → (ℕ → A → Bool) → ℕ → List A → Bool
+eachRow test n [] = true
+eachRow test n (x ∷ xs) = test n x && eachRow test (suc n) xs
+
+-- ---- "Numbers and parties"
+
+unfoldable pub goodNumbers : Conf → Bool
+goodNumbers k =
+    between 1 8 (k .clients)
+    && between 1 5 (k .directories)
+    && between 1 7 (k .replicas)
+    && leb (k .f) 3
+    && leb (2 * k .f + 1) (k .replicas)
+    && between 1 (k .directories) (k .rq)
+    && between 1 (k .directories) (k .wq)
+    && ltb (k .directories) (k .rq + k .wq)
+    && between 3 4294967295 (k .top)
+
+-- the number is at most top, the client at most nc, and both are 0 or neither is
+abbrev pub goodTag : Conf → Tag → Bool
+goodTag k t =
+    leb (t .number) (k .top)
+    && leb (t .client) (k .clients)
+    && (eqb (t .number) 0 && eqb (t .client) 0 || leb 1 (t .number) && leb 1 (t .client))
+
+abbrev pub zeroTag : Tag → Bool
+zeroTag t = eqb (t .number) 0 && eqb (t .client) 0
+
+-- a set of n parties has no bit above n
+abbrev pub goodSet : ℕ → ℕ → Bool
+goodSet n s = ltb s (2 ^ n)
+
+-- ---- rows: a row in use passes its test, and one not in use is zero
+
+unfoldable pub goodClient : Conf → Client → Bool
+goodClient k w =
+    leb (w .down) 1
+    && leb (w .phase) 6
+    && (isIdle (w .phase) || leb 1 (w .number))
+    && leb (w .number + roundsLeft (w .phase)) (k .top)
+    && (asksDirectories (w .phase) && goodSet (k .directories) (w .answered)
+    || asksReplicas (w .phase) && goodSet (k .replicas) (w .answered)
+    || eqb (w .answered) 0)
+    && field (usesReplicaSet (w .phase)) (goodSet (k .replicas) (w .replicas)) (eqb (w .replicas) 0)
+    && field (usesTag (w .phase)) (goodTag k (w .tag)) (zeroTag (w .tag))
+    && eqb (w .spare) 0
+    && (usesPage (w .phase) || zeros (w .page))
+
+unfoldable pub goodDirectory : Conf → Directory → Bool
+goodDirectory k d = leb (d .down) 1 && goodTag k (d .tag) && goodSet (k .replicas) (d .set)
+
+unfoldable pub goodEntry : Conf → Entry → Bool
+goodEntry k e =
+    if isFree e then zeros (entryWords e)
+    else leb (e .state) 2 && goodTag k (e .tag) && eqb (e .spare) 0
+
+-- no tag stands in two entries
+unfoldable pub tagsOnce : List Entry → Bool
+tagsOnce [] = true
+tagsOnce (e ∷ es) = (isFree e || not (some? (hasTag (e .tag)) es)) && tagsOnce es
+
+unfoldable pub goodReplica : Conf → Replica → Bool
+goodReplica k r =
+    leb (r .down) 1
+    && eachRow (λ e. goodEntry k) 1 (r .entries)
+    && tagsOnce (r .entries)
+    && some? isSecured (r .entries)
+
+-- a party of that kind
+abbrev pub isParty : Conf → Party → ℕ → Bool
+isParty k party p = between 1 (manyOf k party) p
+
+unfoldable pub goodMessage : Conf → Message → Bool
+goodMessage k x =
+    leb (x .kind) 15
+    && isParty k (senderOf (x .kind)) (x .sender)
+    && isParty k (receiverOf (x .kind)) (x .receiver)
+    && field (carriesTag (x .kind)) (goodTag k (x .tag)) (zeroTag (x .tag))
+    && field (carriesSet (x .kind)) (goodSet (k .replicas) (x .set)) (eqb (x .set) 0)
+    && field (carriesNumber (x .kind)) (between 1 (k .top) (x .number)) (eqb (x .number) 0)
+    && eqb (x .spare) 0
+    && (carriesPage (x .kind) || zeros (x .page))
+
+-- ---- the tables: the first nc client rows are in use, and so on
+
+unfoldable pub clientRow : Conf → ℕ → Client → Bool
+clientRow k c w = if leb c (k .clients) then goodClient k w else zeros (clientWords w)
+
+unfoldable pub directoryRow : Conf → ℕ → Directory → Bool
+directoryRow k d w = if leb d (k .directories) then goodDirectory k w else zeros (directoryWords w)
+
+unfoldable pub replicaRow : Conf → ℕ → Replica → Bool
+replicaRow k r w = if leb r (k .replicas) then goodReplica k w else eqb (w .down) 0 && zeros (replicaWords w)
+
+unfoldable pub slotRow : Conf → ℕ → Message → Bool
+slotRow k s x = if isEmpty x then zeros (messageWords x) else goodMessage k x
+
+unfoldable pub goodMachine : Machine → Bool
+goodMachine M =
+    goodNumbers (M .conf)
+    && zeros (M .spare)
+    && eachRow (clientRow (M .conf)) 1 (M .clients)
+    && eachRow (directoryRow (M .conf)) 1 (M .directories)
+    && zeros (M .gap)
+    && eachRow (replicaRow (M .conf)) 1 (M .replicas)
+    && eachRow (slotRow (M .conf)) 1 (M .slots)
+
+-- the machine of a buffer is not bad
+unfoldable pub good : List ℕ → Bool
+good m = goodMachine (machineOf m)

@@ -1,0 +1,11 @@
+-- The laws of the tables: parts, rows and blocks of words, where each row stands, loops over rows, and the round trips between words and machine.
+pub mod All
+pub mod Parts
+pub mod Table
+pub mod Blocks
+pub mod Read
+pub mod Loops
+pub mod Empty
+pub mod Whole
+pub mod Round
+pub mod Holds

@@ -1,0 +1,170 @@
+-- A machine with as many rows as the tables have, and with pages of 16 words: what each replaced row keeps.
+use mathlib.Core.Path.{_≡_, refl, _∙_}
+use mathlib.Core.List.{List}
+use Prim.Native.Nat.{ℕ, zero, suc, _+_, _*_, _≤_}
+use native.Mathlib.Omega.{arith}
+use lib.ListN.{length, take, drop, length-drop}
+use lib.Seq.{length-take-le}
+use Rattle.tables.specs.declared.Client.{Client}
+use Rattle.tables.specs.declared.Directory.{Directory}
+use Rattle.tables.specs.declared.Entry.{Entry}
+use Rattle.tables.specs.declared.Message.{Message}
+use Rattle.tables.specs.Rows.{row, withRow}
+use Rattle.tables.specs.Tables.{Page, Replica, Machine, noPage, noClient, noEntry, noReplica, noMessage, clientAt, replicaAt, slotAt, withClient, withDirectory, withReplica, withDown, withEntry, withSlots, withSlot}
+use Rattle.tables.specs.Words.{clientOf, entryOf, messageOf, entriesOf, replicasOf, machineOf}
+use Rattle.tables.proofs.All.{All, none, cons, all-replicate, all-row, all-withRow, length-withRow}
+use Rattle.tables.proofs.Table.{wider, rowsOf-all}
+use Rattle.tables.proofs.Read.{clients-many, directories-many, replicas-many, slots-many, entries-many}
+
+-- a page is 16 words
+abbrev pub Paged : Page → Type 0
+Paged p = length p ≡ 16
+
+-- a replica has 12 entries
+pub record Stocked (r : Replica) : Type 0 where
+  pub many : length (r .entries) ≡ 12
+  pub pages : All (λ (e : Entry). Paged (e .page)) (r .entries)
+
+pub record Whole (M : Machine) : Type 0 where
+  pub spare : length (M .spare) ≡ 9
+  pub clients : length (M .clients) ≡ 8
+  pub directories : length (M .directories) ≡ 5
+  pub gap : length (M .gap) ≡ 5
+  pub replicas : length (M .replicas) ≡ 7
+  pub slots : length (M .slots) ≡ 128
+  pub client-pages : All (λ (x : Client). Paged (x .page)) (M .clients)
+  pub stocks : All Stocked (M .replicas)
+  pub slot-pages : All (λ (x : Message). Paged (x .page)) (M .slots)
+
+-- ---- a machine that is read is whole
+
+-- the page that stands after n words
+page-read : (n : ℕ) (l : List ℕ) → n + 16 ≤ length l → Paged (take 16 (drop n l))
+page-read n l h = length-take-le 16 (drop n l) (rw length-drop (omega arith))
+
+stocked-read : (d : ℕ) (l : List ℕ) → 240 ≤ length l → Stocked (record { down = d; entries = entriesOf l })
+unfolding entriesOf entryOf
+stocked-read d l h = record { many = entries-many l; pages = rowsOf-all entryOf 12 20 l (page-read 4) h }
+
+stocks-read : (n : ℕ) (flags l : List ℕ) → n * 240 ≤ length l → All Stocked (replicasOf n flags l)
+unfolding replicasOf
+stocks-read zero flags l h = none
+stocks-read (suc n) flags l h =
+    let h′ : 240 + n * 240 ≤ length l = rw (wider n 240) at h in
+    cons (stocked-read _ l (omega arith)) (stocks-read n (drop 1 flags) (drop 240 l) (rw length-drop (omega arith)))
+
+pub wholeOf : (m : List ℕ) → 4992 ≤ length m → Whole (machineOf m)
+unfolding machineOf clientOf messageOf
+wholeOf m h =
+    record {
+      spare = length-take-le 9 (drop 7 m) (rw length-drop (omega arith));
+      clients = clients-many m;
+      directories = directories-many m;
+      gap = length-take-le 5 (drop 235 m) (rw length-drop (omega arith));
+      replicas = replicas-many m;
+      slots = slots-many m;
+      client-pages = rowsOf-all clientOf 8 24 (drop 16 m) (page-read 8) (rw length-drop (omega arith));
+      stocks = stocks-read 7 (drop 228 m) (drop 240 m) (rw length-drop (omega arith));
+      slot-pages = rowsOf-all messageOf 128 24 (drop 1920 m) (page-read 8) (rw length-drop (omega arith));
+    }
+
+-- ---- blank rows
+
+pub blank-client : Paged (noClient .page)
+unfolding noClient noPage
+blank-client = refl
+
+pub blank-message : Paged (noMessage .page)
+unfolding noMessage noPage
+blank-message = refl
+
+pub blank-entry : Paged (noEntry .page)
+unfolding noEntry noPage
+blank-entry = refl
+
+pub blank-replica : Stocked noReplica
+unfolding noReplica
+blank-replica = record { many = refl; pages = all-replicate 12 noEntry blank-entry }
+
+-- ---- rows of a whole machine, also where there is none of that number; and a row replaced
+
+module _ {M : Machine} (z : Whole M) where
+  pub client-paged : (c : ℕ) → Paged (clientAt M c .page)
+  client-paged c = all-row noClient c blank-client (z .client-pages)
+
+  pub slot-paged : (s : ℕ) → Paged (slotAt M s .page)
+  slot-paged s = all-row noMessage s blank-message (z .slot-pages)
+
+  pub replica-stocked : (r : ℕ) → Stocked (replicaAt M r)
+  replica-stocked r = all-row noReplica r blank-replica (z .stocks)
+
+  pub entry-paged : (r e : ℕ) → Paged (row noEntry (replicaAt M r .entries) e .page)
+  entry-paged r e = all-row noEntry e blank-entry (replica-stocked r .pages)
+
+  pub whole-client : (c : ℕ) (x : Client) → Paged (x .page) → Whole (withClient M c x)
+  whole-client c x p =
+      record {
+        spare = z .spare;
+        clients = length-withRow (M .clients) c x ∙ z .clients;
+        directories = z .directories;
+        gap = z .gap;
+        replicas = z .replicas;
+        slots = z .slots;
+        client-pages = all-withRow c x p (z .client-pages);
+        stocks = z .stocks;
+        slot-pages = z .slot-pages;
+      }
+
+  pub whole-directory : (d : ℕ) (x : Directory) → Whole (withDirectory M d x)
+  whole-directory d x =
+      record {
+        spare = z .spare;
+        clients = z .clients;
+        directories = length-withRow (M .directories) d x ∙ z .directories;
+        gap = z .gap;
+        replicas = z .replicas;
+        slots = z .slots;
+        client-pages = z .client-pages;
+        stocks = z .stocks;
+        slot-pages = z .slot-pages;
+      }
+
+  pub whole-replica : (r : ℕ) (x : Replica) → Stocked x → Whole (withReplica M r x)
+  whole-replica r x p =
+      record {
+        spare = z .spare;
+        clients = z .clients;
+        directories = z .directories;
+        gap = z .gap;
+        replicas = length-withRow (M .replicas) r x ∙ z .replicas;
+        slots = z .slots;
+        client-pages = z .client-pages;
+        stocks = all-withRow r x p (z .stocks);
+        slot-pages = z .slot-pages;
+      }
+
+  pub whole-down : (r x : ℕ) → Whole (withDown M r x)
+  whole-down r x =
+      let s = replica-stocked r in whole-replica r _ (record { many = s .many; pages = s .pages })
+
+  pub whole-entry : (r e : ℕ) (x : Entry) → Paged (x .page) → Whole (withEntry M r e x)
+  whole-entry r e x p =
+      let s = replica-stocked r in
+      whole-replica r _ (record { many = length-withRow (replicaAt M r .entries) e x ∙ s .many; pages = all-withRow e x p (s .pages) })
+
+  pub whole-slots : (ss : List Message) → length ss ≡ 128 → All (λ (x : Message). Paged (x .page)) ss → Whole (withSlots M ss)
+  whole-slots ss e ps =
+      record {
+        spare = z .spare;
+        clients = z .clients;
+        directories = z .directories;
+        gap = z .gap;
+        replicas = z .replicas;
+        slots = e;
+        client-pages = z .client-pages;
+        stocks = z .stocks;
+        slot-pages = ps;
+      }
+
+  pub whole-slot : (s : ℕ) (x : Message) → Paged (x .page) → Whole (withSlot M s x)
+  whole-slot s x p = whole-slots (withRow (M .slots) s x) (length-withRow (M .slots) s x ∙ z .slots) (all-withRow s x p (z .slot-pages))

@@ -1,0 +1,60 @@
+// The tables of a machine, document 01, "The tables": its rows as structs, and the places where they stand in the lent buffer.
+use sets::Tag;
+
+pub mod rows; // rows.rt: a row read from, or written to, a part that begins at its first word
+pub mod places; // places.rt: the row of a party, an entry or a slot, in the whole buffer
+pub mod search; // search.rt: empty slots and free entries
+
+// The seven numbers.
+pub struct Conf {
+    pub clients: u32,
+    pub directories: u32,
+    pub replicas: u32,
+    pub f: u32,
+    pub rq: u32,
+    pub wq: u32,
+    pub top: u32,
+}
+
+pub struct Client {
+    pub down: u32,
+    pub phase: u32,
+    pub number: u32,
+    pub answered: u32,
+    pub replicas: u32,
+    pub tag: Tag,
+    pub spare: u32,
+    pub page: [u32; 16],
+}
+
+pub struct Directory {
+    pub down: u32,
+    pub tag: Tag,
+    pub set: u32,
+}
+
+pub struct Entry {
+    pub state: u32,
+    pub tag: Tag,
+    pub spare: u32,
+    pub page: [u32; 16],
+}
+
+pub struct Message {
+    pub kind: u32,
+    pub sender: u32,
+    pub receiver: u32,
+    pub tag: Tag,
+    pub set: u32,
+    pub number: u32,
+    pub spare: u32,
+    pub page: [u32; 16],
+}
+
+// Who sends or receives a message.
+pub enum Party {
+    Nobody,
+    AClient,
+    ADirectory,
+    AReplica,
+}
