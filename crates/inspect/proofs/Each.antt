@@ -1,8 +1,8 @@
 -- The loops over a table: the rows passed are joined to the test, and the rest are to come.
-use mathlib.Core.Bool.{Bool, true, false, _&&_, _||_, and-true, and-false, or-false, and-assoc, or-assoc}
+use mathlib.Core.Bool.{Bool, true, false, _&&_, _||_, and-true, or-false, and-assoc, or-assoc}
 use mathlib.Core.List.{List, [], _∷_}
 use mathlib.Core.Path.{_≡_, refl, sym, ap, _∙_}
-use Prim.Native.Nat.{ℕ, zero, suc, _+_, _-_, _≤_, _<_}
+use Prim.Native.Nat.{ℕ, zero, suc, _+_, _-_, _≤_, _<_, zero-le, suc-le-suc}
 use native.Mathlib.Nat.{add-comm, add-zero, add-suc, suc-add, not-suc-le-zero, le-of-suc-le-suc}
 use native.Mathlib.Numerals.{add-one}
 use native.Mathlib.Omega.{arith}
@@ -12,7 +12,7 @@ use Rattle.sets.specs.Choice.{if_then_else_}
 use Rattle.tables.specs.Rows.{row, withRow, some?}
 use Rattle.tables.proofs.Parts.{cut-is}
 use Rattle.inspect.specs.Good.{eachRow}
-use Rattle.sets.proofs.Tests.{passes-by}
+use Rattle.inspect.proofs.Tests.{and-l, and-r}
 
 -- ok says of the first i rows what the whole table's test says
 abbrev pub Passed : {A : Type 0} → (ℕ → A → Bool) → List A → ℕ → Bool → Type 0
@@ -52,18 +52,18 @@ module _ {A : Type 0} (test : ℕ → A → Bool) (g : List ℕ → A) (blank : 
 
 -- ---- one row of a table that passes
 
-and-l : (a b : Bool) → a && b ≡ true → a ≡ true
-and-l a b e = passes-by a (a && b) (λ f. rw f) e
-
-and-r : (a b : Bool) → a && b ≡ true → b ≡ true
-and-r a b e = passes-by b (a && b) (λ f. rw (f, and-false)) e
-
 module _ {A : Type 0} (test : ℕ → A → Bool) where
   pub each-at : (n : ℕ) (rows : List A) (i : ℕ) (blank : A) → i < length rows → eachRow test n rows ≡ true → test (n + i) (getD rows i blank) ≡ true
   each-at n [] i blank h g = absurd (not-suc-le-zero h)
   each-at n (x ∷ xs) zero blank h g = rw add-zero (and-l (test n x) (eachRow test (suc n) xs) g)
   each-at n (x ∷ xs) (suc i) blank h g =
       rw (add-suc, ← suc-add) (each-at (suc n) xs i blank (le-of-suc-le-suc h) (and-r (test n x) (eachRow test (suc n) xs) g))
+
+  pub each-all : (n : ℕ) (rows : List A) (blank : A) → ((i : ℕ) → i < length rows → test (n + i) (getD rows i blank) ≡ true) → eachRow test n rows ≡ true
+  each-all n [] blank h = refl
+  each-all n (x ∷ xs) blank h =
+      rw (rw add-zero at (h 0 (suc-le-suc zero-le)))
+      (each-all (suc n) xs blank (λ i l. rw (suc-add, ← add-suc) (h (suc i) (suc-le-suc l))))
 
   each-set : (n : ℕ) (rows : List A) (i : ℕ) (x : A) → test (n + i) x ≡ true → eachRow test n rows ≡ true → eachRow test n (set rows i x) ≡ true
   each-set n [] i x t g = g

@@ -1,5 +1,5 @@
 -- What a good machine says: each condition of Good, taken out.
-use mathlib.Core.Bool.{Bool, true, false, _&&_, _||_, and-false, false≢true}
+use mathlib.Core.Bool.{Bool, true, false, and-false, false≢true}
 use mathlib.Core.List.{List}
 use mathlib.Core.Path.{_≡_}
 use Prim.Native.Nat.{ℕ, suc, _+_, _*_, _^_, _≤_, _<_}
@@ -9,6 +9,7 @@ use lib.Dec.{leb, eqb}
 use lib.ListN.{length, getD}
 use lib.Pow.{pow-pos}
 use Rattle.sets.specs.declared.Tag.{Tag}
+use Rattle.sets.proofs.Tests.{passes-by}
 use Rattle.tables.specs.declared.Conf.{Conf}
 use Rattle.tables.specs.declared.Client.{Client}
 use Rattle.tables.specs.declared.Directory.{Directory}
@@ -19,9 +20,8 @@ use Rattle.tables.specs.Phases.{asksDirectories, asksReplicas, usesReplicaSet, 
 use Rattle.tables.specs.Rows.{some?}
 use Rattle.tables.specs.Tables.{Machine, Replica, noClient, noDirectory, noEntry, noReplica, noMessage, clientAt, directoryAt, replicaAt, slotAt, isFree, isSecured, isEmpty}
 use Rattle.tables.specs.Words.{entryWords, machineOf}
-use Rattle.inspect.specs.Good.{between, zeros, field, eachRow, goodNumbers, goodTag, zeroTag, goodSet, goodClient, goodDirectory, goodEntry, tagsOnce, goodReplica, goodMessage, clientRow, directoryRow, replicaRow, slotRow, goodMachine, good}
+use Rattle.inspect.specs.Good.{between, zeros, field, eachRow, goodNumbers, goodTag, zeroTag, goodSet, goodAnswered, goodClient, goodDirectory, goodEntry, tagsOnce, goodReplica, goodMessage, clientRow, directoryRow, replicaRow, slotRow, goodMachine, good}
 use Rattle.inspect.specs.Inner.{Few}
-use Rattle.sets.proofs.Tests.{passes-by}
 use Rattle.inspect.proofs.Tests.{le-by, eq-by, field-any, field-used, field-zero}
 use Rattle.inspect.proofs.Each.{each-at, row-passes}
 
@@ -124,33 +124,26 @@ pub record ClientFacts (k : Conf) (w : Client) : Type 0 where
   pub spare : w .spare ≡ 0
   pub no-page : usesPage (w .phase) ≡ false → zeros (w .page) ≡ true
 
--- the answered set, by what the phase asks
-answeredIn : Conf → ℕ → ℕ → Bool
-answeredIn k p s = asksDirectories p && goodSet (k .directories) s || asksReplicas p && goodSet (k .replicas) s || eqb s 0
-
 not-five : (p : ℕ) → asksDirectories p ≡ true → eqb p 5 ≡ false
 not-five p a = ne-eqb p 5 (λ q. false≢true (rw q at a))
 
-module _ (k : Conf) (p s : ℕ) (g : answeredIn k p s ≡ true) where
+module _ (k : Conf) (p s : ℕ) (g : goodAnswered k p s ≡ true) where
   answered-directories : asksDirectories p ≡ true → s < 2 ^ k .directories
-  unfolding answeredIn
   answered-directories a =
       ltb-true _ _
-      (passes-by (goodSet (k .directories) s) (answeredIn k p s)
+      (passes-by (goodSet (k .directories) s) (goodAnswered k p s)
       (λ f. simp (f, not-five p a, above-none (k .directories) s f, and-false))
       g)
 
   answered-replicas : p ≡ 5 → s < 2 ^ k .replicas
-  unfolding answeredIn
   answered-replicas e =
       ltb-true _ _
-      (passes-by (goodSet (k .replicas) s) (answeredIn k p s)
+      (passes-by (goodSet (k .replicas) s) (goodAnswered k p s)
       (λ f. simp (e, f, above-none (k .replicas) s f))
       g)
 
   answered-none : asksDirectories p ≡ false → asksReplicas p ≡ false → s ≡ 0
-  unfolding answeredIn
-  answered-none a b = eq-by s 0 (answeredIn k p s) (λ f. simp (f, a, b)) g
+  answered-none a b = eq-by s 0 (goodAnswered k p s) (λ f. simp (f, a, b)) g
 
 module _ (k : Conf) (w : Client) (g : goodClient k w ≡ true) where
   client-tag : field (usesTag (w .phase)) (goodTag k (w .tag)) (zeroTag (w .tag)) ≡ true
@@ -162,9 +155,9 @@ module _ (k : Conf) (w : Client) (g : goodClient k w ≡ true) where
   client-set =
       passes-by (field (usesReplicaSet (w .phase)) (goodSet (k .replicas) (w .replicas)) (eqb (w .replicas) 0)) (goodClient k w) (λ f. simp (f, and-false)) g
 
-  client-answered : answeredIn k (w .phase) (w .answered) ≡ true
-  unfolding goodClient answeredIn
-  client-answered = passes-by (answeredIn k (w .phase) (w .answered)) (goodClient k w) (λ f. simp (f, and-false)) g
+  client-answered : goodAnswered k (w .phase) (w .answered) ≡ true
+  unfolding goodClient
+  client-answered = passes-by (goodAnswered k (w .phase) (w .answered)) (goodClient k w) (λ f. simp (f, and-false)) g
 
   pub client-facts : ClientFacts k w
   unfolding goodClient
@@ -306,6 +299,10 @@ module _ (M : Machine) (g : goodMachine M ≡ true) where
   unfolding goodMachine
   numbers-pass = passes-by (goodNumbers (M .conf)) (goodMachine M) (λ f. simp f) g
 
+  pub spare-pass : zeros (M .spare) ≡ true
+  unfolding goodMachine
+  spare-pass = passes-by (zeros (M .spare)) (goodMachine M) (λ f. simp (f, and-false)) g
+
   pub clients-pass : eachRow (clientRow (M .conf)) 1 (M .clients) ≡ true
   unfolding goodMachine
   clients-pass = passes-by (eachRow (clientRow (M .conf)) 1 (M .clients)) (goodMachine M) (λ f. simp (f, and-false)) g
@@ -313,6 +310,10 @@ module _ (M : Machine) (g : goodMachine M ≡ true) where
   pub directories-pass : eachRow (directoryRow (M .conf)) 1 (M .directories) ≡ true
   unfolding goodMachine
   directories-pass = passes-by (eachRow (directoryRow (M .conf)) 1 (M .directories)) (goodMachine M) (λ f. simp (f, and-false)) g
+
+  pub gap-pass : zeros (M .gap) ≡ true
+  unfolding goodMachine
+  gap-pass = passes-by (zeros (M .gap)) (goodMachine M) (λ f. simp (f, and-false)) g
 
   pub replicas-pass : eachRow (replicaRow (M .conf)) 1 (M .replicas) ≡ true
   unfolding goodMachine

@@ -3,4 +3,5 @@ pub mod Tests
 pub mod Each
 pub mod Once
 pub mod Facts
+pub mod Made
 pub mod Kept

@@ -1,11 +1,12 @@
--- No tag stands in two entries: entry by entry, each tag is in no entry before it.
-use mathlib.Core.Bool.{Bool, true, false, not, _&&_, _||_, and-false, and-true}
+-- No tag stands in two entries: said entry by entry, and of each pair of entries.
+use mathlib.Core.Bool.{Bool, true, false, not, _&&_, _||_, and-false, and-true, false≢true}
 use mathlib.Core.List.{List, [], _∷_, _++_}
 use mathlib.Core.Path.{_≡_, refl, sym, _∙_}
-use Prim.Native.Nat.{ℕ, _+_, _≤_, _<_}
+use Prim.Native.Nat.{ℕ, zero, suc, _+_, _≤_, _<_, zero-le, suc-le-suc}
+use native.Mathlib.Nat.{not-suc-le-zero, le-of-suc-le-suc}
 use native.Mathlib.Numerals.{add-one}
 use native.Mathlib.Omega.{arith}
-use borrow.Author.Tests.{eq-eqb, ne-eqb, eqb-true, eqb-false}
+use borrow.Author.Tests.{eq-eqb, ne-eqb, eqb-true, eqb-false, not-true}
 use lib.Dec.{eqb}
 use lib.ListN.{length, getD, take}
 use lib.Seq.{take-suc, take-all}
@@ -14,9 +15,10 @@ use Rattle.sets.specs.Tags.{same}
 use Rattle.sets.specs.declared.Tag.{Tag}
 use Rattle.tables.specs.declared.Entry.{Entry}
 use Rattle.tables.specs.Rows.{some?}
-use Rattle.tables.specs.Tables.{hasTag, noEntry, isFree}
+use Rattle.tables.specs.Tables.{noEntry, isFree, hasTag}
 use Rattle.inspect.specs.Good.{tagsOnce}
 use Rattle.inspect.specs.Inner.{freshAt}
+use Rattle.inspect.proofs.Tests.{and-l, and-r}
 
 eqb-sym : (a b : ℕ) → eqb a b ≡ eqb b a
 eqb-sym a b = go (eqb b a) refl
@@ -27,6 +29,10 @@ eqb-sym a b = go (eqb b a) refl
 
 same-sym : (t u : Tag) → same t u ≡ same u t
 same-sym t u = rw (eqb-sym (t .number) (u .number), eqb-sym (t .client) (u .client))
+
+passes-no : (a b : Bool) → (if a then true else b) ≡ false → (a ≡ false) × (b ≡ false)
+passes-no true b e = absurd (false≢true (sym e))
+passes-no false b e = (refl, e)
 
 some-snoc : {A : Type 0} (p : A → Bool) (xs : List A) (x : A) → some? p (xs ++ x ∷ []) ≡ some? p xs || p x
 some-snoc p [] x = go (p x)
@@ -67,3 +73,42 @@ module _ (es : List Entry) (n : ℕ) (many : length es ≡ n) (j : ℕ) (ok : Bo
 
   pub once-end : n ≤ j → ok ≡ tagsOnce es
   once-end h = passed ∙ rw (take-all j es (omega arith))
+
+-- ---- by pairs: of two entries in use, the later has not the tag of the earlier
+
+module _ {A : Type 0} (p : A → Bool) (d : A) where
+  none-at : (xs : List A) → some? p xs ≡ false → (j : ℕ) → j < length xs → p (getD xs j d) ≡ false
+  none-at [] e j h = absurd (not-suc-le-zero h)
+  none-at (x ∷ xs) e zero h = passes-no (p x) (some? p xs) e .0
+  none-at (x ∷ xs) e (suc j) h = none-at xs (passes-no (p x) (some? p xs) e .1) j (le-of-suc-le-suc h)
+
+  at-none : (xs : List A) → ((j : ℕ) → j < length xs → p (getD xs j d) ≡ false) → some? p xs ≡ false
+  at-none [] h = refl
+  at-none (x ∷ xs) h = rw (h 0 (suc-le-suc zero-le)) (at-none xs (λ j l. h (suc j) (suc-le-suc l)))
+
+pub record Apart (es : List Entry) : Type 0 where
+  pub apart-at : (i j : ℕ) → i < j → j < length es → isFree (getD es i noEntry) ≡ false → hasTag (getD es i noEntry .tag) (getD es j noEntry) ≡ false
+
+once-at : (es : List Entry) → tagsOnce es ≡ true → (i j : ℕ) → i < j → j < length es → isFree (getD es i noEntry) ≡ false
+    → hasTag (getD es i noEntry .tag) (getD es j noEntry) ≡ false
+unfolding tagsOnce
+once-at [] g i j l h u = absurd (not-suc-le-zero h)
+once-at (e ∷ es) g i zero l h u = absurd (not-suc-le-zero l)
+once-at (e ∷ es) g zero (suc j) l h u =
+    let s : isFree e || not (some? (hasTag (e .tag)) es) ≡ true = and-l (isFree e || not (some? (hasTag (e .tag)) es)) (tagsOnce es) g in
+    none-at (hasTag (e .tag)) noEntry es (not-true (some? (hasTag (e .tag)) es) (rw u at s)) j (le-of-suc-le-suc h)
+once-at (e ∷ es) g (suc i) (suc j) l h u =
+    once-at es (and-r (isFree e || not (some? (hasTag (e .tag)) es)) (tagsOnce es) g) i j (le-of-suc-le-suc l) (le-of-suc-le-suc h) u
+
+pub once-apart : (es : List Entry) → tagsOnce es ≡ true → Apart es
+once-apart es g = record { apart-at = once-at es g }
+
+pub apart-once : (es : List Entry) → Apart es → tagsOnce es ≡ true
+unfolding tagsOnce
+apart-once [] a = refl
+apart-once (e ∷ es) a =
+    rw (first (isFree e) refl, apart-once es (record { apart-at = λ i j l h u. a .apart-at (suc i) (suc j) (suc-le-suc l) (suc-le-suc h) u }))
+  where
+    first : (b : Bool) → isFree e ≡ b → b || not (some? (hasTag (e .tag)) es) ≡ true
+    first true u = refl
+    first false u = rw (at-none (hasTag (e .tag)) noEntry es (λ j h. a .apart-at 0 (suc j) (suc-le-suc zero-le) (suc-le-suc h) u))

@@ -1,5 +1,5 @@
 -- Tests and their outcomes: a conjunct of a test that passes, and words joined by `|`.
-use mathlib.Core.Bool.{Bool, true, false, _&&_, and-true, and-assoc}
+use mathlib.Core.Bool.{Bool, true, false, _&&_, and-true, and-false, and-assoc}
 use mathlib.Core.List.{List}
 use mathlib.Core.Path.{_≡_, refl, sym, _∙_}
 use Prim.Native.Nat.{ℕ, _+_, _≤_, _<_}
@@ -12,6 +12,12 @@ use lib.ListN.{length, getD, take, drop, drop-of-length-le}
 use lib.Seq.{drop-cons, take-all}
 use Rattle.sets.proofs.Tests.{passes-by}
 use Rattle.inspect.specs.Good.{zeros, field}
+
+pub and-l : (a b : Bool) → a && b ≡ true → a ≡ true
+and-l a b e = passes-by a (a && b) (λ f. rw f) e
+
+pub and-r : (a b : Bool) → a && b ≡ true → b ≡ true
+and-r a b e = passes-by b (a && b) (λ f. rw (f, and-false)) e
 
 pub le-by : (a b : ℕ) (x : Bool) → (leb a b ≡ false → x ≡ false) → x ≡ true → a ≤ b
 le-by a b x h e = leb-true a b (passes-by (leb a b) x h e)

@@ -1,6 +1,6 @@
 -- "A bad machine is one where .. Nothing else is bad": `good` is true where the machine is not bad, and false where it is.
 -- Each line of a conjunction is one of the paper's conditions.
-use mathlib.Core.Bool.{Bool, true, false, not, _&&_, _||_}
+use mathlib.Core.Bool.{Bool, true, not, _&&_, _||_}
 use mathlib.Core.List.{List, [], _∷_}
 use Prim.Native.Nat.{ℕ, suc, _+_, _*_, _^_}
 use lib.Dec.{leb, ltb, eqb}
@@ -13,8 +13,8 @@ use Rattle.tables.specs.declared.Directory.{Directory}
 use Rattle.tables.specs.declared.Entry.{Entry}
 use Rattle.tables.specs.declared.Message.{Message}
 use Rattle.tables.specs.Rows.{some?}
-use Rattle.tables.specs.Tables.{Replica, Machine, Page, isFree, isSecured, hasTag, isEmpty}
-use Rattle.tables.specs.Words.{clientWords, directoryWords, downWords, entryWords, replicaWords, messageWords, machineOf}
+use Rattle.tables.specs.Tables.{Replica, Machine, isFree, hasTag, isSecured, isEmpty}
+use Rattle.tables.specs.Words.{clientWords, directoryWords, entryWords, replicaWords, messageWords, machineOf}
 use Rattle.tables.specs.Kinds.{senderOf, receiverOf, manyOf, carriesSet, carriesTag, carriesPage, carriesNumber}
 use Rattle.tables.specs.Phases.{isIdle, usesTag, asksDirectories, asksReplicas, usesReplicaSet, usesPage, roundsLeft}
 
@@ -65,6 +65,11 @@ zeroTag t = eqb (t .number) 0 && eqb (t .client) 0
 abbrev pub goodSet : ℕ → ℕ → Bool
 goodSet n s = ltb s (2 ^ n)
 
+-- a client's answered set: one of directories or of replicas, by what the phase asks
+abbrev pub goodAnswered : Conf → ℕ → ℕ → Bool
+goodAnswered k phase s =
+    asksDirectories phase && goodSet (k .directories) s || asksReplicas phase && goodSet (k .replicas) s || eqb s 0
+
 -- ---- rows: a row in use passes its test, and one not in use is zero
 
 unfoldable pub goodClient : Conf → Client → Bool
@@ -73,9 +78,7 @@ goodClient k w =
     && leb (w .phase) 6
     && (isIdle (w .phase) || leb 1 (w .number))
     && leb (w .number + roundsLeft (w .phase)) (k .top)
-    && (asksDirectories (w .phase) && goodSet (k .directories) (w .answered)
-    || asksReplicas (w .phase) && goodSet (k .replicas) (w .answered)
-    || eqb (w .answered) 0)
+    && goodAnswered k (w .phase) (w .answered)
     && field (usesReplicaSet (w .phase)) (goodSet (k .replicas) (w .replicas)) (eqb (w .replicas) 0)
     && field (usesTag (w .phase)) (goodTag k (w .tag)) (zeroTag (w .tag))
     && eqb (w .spare) 0

@@ -9,7 +9,7 @@ use Rattle.sets.specs.Choice.{if_then_else_}
 use Rattle.tables.specs.declared.Conf.{Conf}
 use Rattle.tables.specs.declared.Entry.{Entry}
 use Rattle.tables.specs.Rows.{some?}
-use Rattle.tables.specs.Tables.{hasTag, Replica, noEntry, isFree}
+use Rattle.tables.specs.Tables.{Replica, noEntry, isFree, hasTag}
 use Rattle.tables.specs.Words.{entriesOf, replicaWords}
 use Rattle.inspect.specs.Good.{zeros, goodReplica}
 

@@ -1,11 +1,11 @@
 // The tests of single fields.
 ghost use mathlib.Core.Path.{_≡_};
-ghost use mathlib.Core.Bool.{_&&_, _||_};
+ghost use mathlib.Core.Bool.{_||_};
 ghost use Prim.Native.Nat.{_^_, _≤_};
 ghost use lib.Dec.{eqb};
 ghost use Rattle.tables.specs.Kinds.{senderOf, receiverOf, manyOf, carriesSet, carriesTag, carriesNumber};
-ghost use Rattle.tables.specs.Phases.{roundsLeft, asksDirectories, asksReplicas};
-ghost use Rattle.inspect.specs.Good.{between, zeros, field, goodNumbers, goodTag, zeroTag, goodSet, isParty};
+ghost use Rattle.tables.specs.Phases.{roundsLeft};
+ghost use Rattle.inspect.specs.Good.{between, zeros, field, goodNumbers, goodTag, zeroTag, goodSet, goodAnswered, isParty};
 ghost use Rattle.inspect.specs.Inner.{Few};
 use sets::Tag;
 use tables::Conf;
@@ -90,7 +90,7 @@ pub fn set_field(n: u32, used: bool, s: u32) -> bool
 // The answered set of a client in this phase.
 pub fn answered_field(k: Conf, phase: u32, s: u32) -> bool
     requires { ⌜ Few k ⌝ }
-    ensures { λ r. ⌜ r ≡ (asksDirectories phase && goodSet (k .directories) s || asksReplicas phase && goodSet (k .replicas) s || eqb s 0) ⌝ }
+    ensures { λ r. ⌜ r ≡ goodAnswered k phase s ⌝ }
 {
     ((phase == 1) | ((phase == 2) | ((phase == 4) | (phase == 6)))) & (s < sets_of(k.directories))
         | (phase == 5) & (s < sets_of(k.replicas))

@@ -5,6 +5,7 @@ pub mod Table
 pub mod Blocks
 pub mod Read
 pub mod Loops
+pub mod Lists
 pub mod Empty
 pub mod Whole
 pub mod Round

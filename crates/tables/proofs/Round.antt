@@ -63,7 +63,7 @@ message-back : (x : Message) (q : List ℕ) → Paged (x .page) → messageOf (m
 unfolding messageOf messageWords
 message-back x q p = rw (take-at (x .page) q 16 p)
 
-entries-back : (r : Replica) (q : List ℕ) → Stocked r → entriesOf (replicaWords r ++ q) ≡ r .entries
+pub entries-back : (r : Replica) (q : List ℕ) → Stocked r → entriesOf (replicaWords r ++ q) ≡ r .entries
 unfolding entriesOf replicaWords
 entries-back r q s = rowsOf-back entryWords 20 entryOf entry-wide entry-back (s .pages) 12 q (s .many)
 

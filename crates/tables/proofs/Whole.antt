@@ -42,7 +42,7 @@ pub record Whole (M : Machine) : Type 0 where
 page-read : (n : ℕ) (l : List ℕ) → n + 16 ≤ length l → Paged (take 16 (drop n l))
 page-read n l h = length-take-le 16 (drop n l) (rw length-drop (omega arith))
 
-stocked-read : (d : ℕ) (l : List ℕ) → 240 ≤ length l → Stocked (record { down = d; entries = entriesOf l })
+pub stocked-read : (d : ℕ) (l : List ℕ) → 240 ≤ length l → Stocked (record { down = d; entries = entriesOf l })
 unfolding entriesOf entryOf
 stocked-read d l h = record { many = entries-many l; pages = rowsOf-all entryOf 12 20 l (page-read 4) h }
 

@@ -6,7 +6,13 @@ use Rattle.inspect.proofs.row.client.Tie as tie
 returns : tie.Need-returns
 unfolding goodClient
 returns c =
-    rw (c .page-field .ensures, c .before .before .tag-field .ensures, c .before .before .before .set-field .ensures, c .before .before .before .before .answered-field .ensures, c .before .before .before .before .before .before .rounds .ensures)
+    rw (
+      c .page-field .ensures,
+      c .before .before .tag-field .ensures,
+      c .before .before .before .set-field .ensures,
+      c .before .before .before .before .answered-field .ensures,
+      c .before .before .before .before .before .before .rounds .ensures,
+    )
 
 pub client-spec : {M : Type 1} → statement M
 client-spec =

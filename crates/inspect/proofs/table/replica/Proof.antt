@@ -14,7 +14,8 @@ use Rattle.inspect.proofs.Tests.{own-words}
 use Rattle.inspect.proofs.table.replica.Statement.{statement}
 use Rattle.inspect.proofs.table.replica.Tie as tie
 
-blank : (k : Conf) (used : Bool) (down : ℕ) (l : List ℕ) (z : Bool) → used ≡ false → length l ≡ 240 → z ≡ zeros l → eqb down 0 && z ≡ replicaIn k used down l
+blank : (k : Conf) (used : Bool) (down : ℕ) (l : List ℕ) (z : Bool) → used ≡ false → length l ≡ 240 → z ≡ zeros l
+    → eqb down 0 && z ≡ replicaIn k used down l
 unfolding replicaIn
 blank k used down l z u wide q = rw (u, q, own-words 240 l (replicaWords (record { down = down; entries = entriesOf l })) wide (replica-words down l))
 

@@ -1,13 +1,11 @@
 use mathlib.Core.Path.{_≡_}
 use Prim.Native.Nat.{_+_, _-_, _≤_}
 use borrow.Author.Needs.{needs}
-use native.Mathlib.Omega.{arith}
 use lib.ListN.{drop}
 use Rattle.tables.specs.Rows.{before}
 use Rattle.tables.specs.Tables.{noEntry, hasTag}
 use Rattle.tables.specs.Words.{entriesOf}
 use Rattle.tables.proofs.Read.{entries-many}
-use Rattle.tables.proofs.Parts.{length-rest}
 use Rattle.tables.proofs.Loops.{found, further, missing}
 use Rattle.tables.proofs.Empty.{entry-tagged}
 use Rattle.tables.proofs.search.tag_place.Statement.{statement}
@@ -18,9 +16,6 @@ Inv-loop l t e₀ e = (e ≤ 12) × (e + before (hasTag t) (drop e (entriesOf l)
 
 abbrev μ-loop : tie.MeasureT-loop
 μ-loop l t e₀ e = 12 - e
-
-has-tag-requires : tie.Need-has-tag-requires Inv-loop μ-loop
-has-tag-requires c κs = rw (length-rest _ _) (omega arith)
 
 returns : tie.Need-returns Inv-loop μ-loop
 returns c = search (found noEntry, entry-tagged, entries-many)
@@ -35,5 +30,5 @@ pub tag-place-spec : {M : Type 1} → statement M
 tag-place-spec =
     tie.close
     (tie.spec Inv-loop μ-loop (λ c. search needs) (λ c. search needs) (λ c. search needs) (λ c. search needs)
-    (λ c. search needs) (λ c. search needs) has-tag-requires returns (λ c. search needs) (λ c. search needs)
+    (λ c. search needs) (λ c. search needs) (λ c κs. search needs) returns (λ c. search needs) (λ c. search needs)
     loop-again returns-2)
