@@ -1,0 +1,24 @@
+-- When an answered set of directories is enough: more are enough too, and a read quorum meets a write quorum.
+use Prim.Native.Nat.{ℕ, _+_, _^_, _≤_, _<_}
+use native.Mathlib.Omega.{arith}
+use lib.Dec.{T, leb→le, le→leb}
+use Rattle.sets.specs.Sets.{_∈_, size}
+use Rattle.sets.proofs.Laws.{within, meet}
+use Rattle.tables.specs.declared.Conf.{Conf}
+use Rattle.rules.specs.Quorums.{enoughToRead, enoughToWrite}
+
+module _ (k : Conf) where
+  module _ (n a b : ℕ) (h : a < 2 ^ n) (sub : (p : ℕ) → p ∈ a → p ∈ b) where
+    pub read-grows : T (enoughToRead k a) → T (enoughToRead k b)
+    unfolding enoughToRead
+    read-grows e = le→leb (k .rq) (size b) (omega (arith, leb→le (k .rq) (size a) e, within n a b h sub))
+
+    pub write-grows : T (enoughToWrite k a) → T (enoughToWrite k b)
+    unfolding enoughToWrite
+    write-grows e = le→leb (k .wq) (size b) (omega (arith, leb→le (k .wq) (size a) e, within n a b h sub))
+
+  pub quorums-meet : (a b : ℕ) → k .directories < k .rq + k .wq → a < 2 ^ k .directories → b < 2 ^ k .directories
+      → T (enoughToRead k a) → T (enoughToWrite k b) → (p : ℕ) × (1 ≤ p) × (p ≤ k .directories) × (p ∈ a) × (p ∈ b)
+  unfolding enoughToRead enoughToWrite
+  quorums-meet a b q ha hb r w =
+      meet (k .directories) a b ha hb (omega (arith, leb→le (k .rq) (size a) r, leb→le (k .wq) (size b) w))

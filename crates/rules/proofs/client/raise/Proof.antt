@@ -1,0 +1,9 @@
+use borrow.Author.Needs.{needs}
+use Rattle.rules.proofs.client.raise.Statement.{statement}
+use Rattle.rules.proofs.client.raise.Tie as tie
+
+pub raise-spec : {M : Type 1} → statement M
+raise-spec =
+    tie.close
+    (tie.spec (λ c κs. search needs) (λ c. search needs) (λ c. search needs) (λ c. search needs) (λ c. cc)
+    (λ c. cc) (λ c. cc))

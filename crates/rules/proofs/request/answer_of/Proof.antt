@@ -1,0 +1,10 @@
+use borrow.Author.Needs.{needs}
+use Rattle.rules.proofs.request.answer_of.Statement.{statement}
+use Rattle.rules.proofs.request.answer_of.Tie as tie
+
+pub answer-of-spec : {M : Type 1} → statement M
+answer-of-spec =
+    tie.close
+    (tie.spec (λ c κs. search needs) (λ c. search needs) (λ c κs. search needs) (λ c. search needs)
+    (λ c κs. search needs) (λ c. search needs) (λ c. search needs) (λ c. search needs) (λ c. search needs)
+    (λ c κs. search needs) (λ c. cc) (λ c. cc) (λ c. cc) (λ c. cc) (λ c. cc) (λ c. cc))
