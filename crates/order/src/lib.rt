@@ -1,0 +1,1 @@
+// The third demand's statement and its theorem are in specs/ and proofs/: no code of this library runs.
