@@ -81,9 +81,9 @@ module _ (old : List ℕ) (at : ℕ) (v : List ℕ) where
       let w = then (i * 21) 21 old mid new at k r _ _ p q in
       record { low = w .low; high = omega arith; text = w .text ∙ rw (add-one, fields-suc v i h) }
 
-  pub all-fields : (i : ℕ) (new : List ℕ) (r : ℕ) → length v ≡ 5 → i ≤ length v → length v ≤ i
-      → Printed (i * 21) old at (fieldsText (take i v)) new r → Printed 105 old at (fieldsText v) new r
-  all-fields i new r e h k p =
+  pub all-fields : (i : ℕ) (new : List ℕ) (r : ℕ) → i ≤ length v → length v ≤ i → Printed (i * 21) old at (fieldsText (take i v)) new r
+      → Printed (length v * 21) old at (fieldsText v) new r
+  all-fields i new r h k p =
       record { low = p .low; high = omega arith; text = p .text ∙ rw (take-all i v k) }
 
 -- an answer

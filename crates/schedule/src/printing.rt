@@ -1,7 +1,7 @@
 // The line that answers a command, put into a buffer of bytes.
 ghost use mathlib.Core.Path.{_≡_};
 ghost use mathlib.Core.List.{[], _∷_};
-ghost use Prim.Native.Nat.{_+_, _^_, _≤_, _<_};
+ghost use Prim.Native.Nat.{_+_, _*_, _^_, _≤_, _<_};
 ghost use lib.ListN.{length};
 ghost use Rattle.schedule.specs.Text.{decimalIn, decimal, fieldsText, wordShown, answerText};
 ghost use Rattle.schedule.specs.Inner.{Printed};
@@ -46,8 +46,8 @@ fn put_field(out: &mut [u8], at: usize, n: u32) -> usize
 }
 
 fn put_fields(out: &mut [u8], at: usize, v: &[u32]) -> usize
-    requires { ⌜ (length (now v) ≡ 5) × (at + 105 ≤ length (now out)) ⌝ }
-    ensures { λ r. ⌜ Printed 105 (now (out .entry)) at (fieldsText (now (v .entry))) (now (out .exit)) r ⌝ }
+    requires { ⌜ at + length (now v) * 21 ≤ length (now out) ⌝ }
+    ensures { λ r. ⌜ Printed (length (now (v .entry)) * 21) (now (out .entry)) at (fieldsText (now (v .entry))) (now (out .exit)) r ⌝ }
 {
     let mut k = at;
     let mut i = 0;

@@ -1,0 +1,85 @@
+-- What a good machine says of the message in a slot: its receiver and its sender are parties of their kinds.
+use mathlib.Core.Path.{_≡_, refl, sym, ap, _∙_}
+use mathlib.Core.Bool.{true}
+use mathlib.Core.List.{List}
+use Prim.Native.Nat.{ℕ, suc, _^_, _≤_, _<_}
+use native.Mathlib.Nat.{lt-of-lt-of-le}
+use native.Mathlib.Decide.{ℕ-discrete}
+use native.Mathlib.Omega.{arith}
+use borrow.Author.Tests.{ne-eqb}
+use lib.Pow.{pow-mono}
+use Rattle.tables.specs.declared.Conf.{Conf}
+use Rattle.tables.specs.declared.Message.{Message}
+use Rattle.tables.specs.declared.Party.{Party}
+use Rattle.tables.specs.declared.Party.the-variants.{Nobody, AClient, ADirectory, AReplica}
+use Rattle.tables.specs.Kinds.{senderOf, receiverOf, manyOf}
+use Rattle.tables.specs.Tables.{slotAt}
+use Rattle.tables.specs.Words.{confOf, machineOf}
+use Rattle.tables.proofs.Read.{slots-many}
+use Rattle.inspect.specs.Good.{good}
+use Rattle.inspect.proofs.Facts.{NumbersFacts, numbers-facts, numbers-pass, MessageFacts, message-facts, message-good, good-machine}
+use Rattle.machine.specs.Inner.{Ready, mostOf, Arrived}
+
+pub numbers-of : (m : List ℕ) → good m ≡ true → NumbersFacts (machineOf m .conf)
+numbers-of m g = numbers-facts (machineOf m .conf) (numbers-pass (machineOf m) (good-machine m g))
+
+-- the seven numbers of a buffer
+pub conf-of : (m : List ℕ) → confOf m ≡ machineOf m .conf
+unfolding machineOf
+conf-of m = refl
+
+-- a set of few parties is one of many
+pub below-two : (n k s : ℕ) → s < 2 ^ n → n ≤ k → s < 2 ^ k
+below-two n k s h l = lt-of-lt-of-le h (pow-mono l)
+
+module _ (k : Conf) (n : NumbersFacts k) where
+  many-few : (who : Party) → manyOf k who ≤ mostOf who
+  many-few Nobody = omega arith
+  many-few AClient = n .few-clients
+  many-few ADirectory = n .few-directories
+  many-few AReplica = n .few-replicas
+
+  many-eight : (who : Party) → manyOf k who ≤ 8
+  many-eight Nobody = omega arith
+  many-eight AClient = n .few-clients
+  many-eight ADirectory = omega (arith, n .few-directories)
+  many-eight AReplica = omega (arith, n .few-replicas)
+
+module _ (m : List ℕ) (s : ℕ) (x : Message) (g : Ready m) (b : s < 128) (e : x ≡ slotAt (machineOf m) (suc s)) where
+  message-of : (x .kind ≡ 0 → ⊥) → MessageFacts (machineOf m .conf) x
+  message-of z =
+      rw e
+      (message-facts (machineOf m .conf) (slotAt (machineOf m) (suc s))
+      (message-good (machineOf m) (good-machine m (g .fine)) (suc s) (omega arith) (omega (arith, slots-many m)) (ne-eqb _ 0 (λ q. z (ap (λ (y : Message). y .kind) e ∙ q)))))
+
+  module _ (o : Party) (w : o ≡ receiverOf (x .kind)) where
+    -- a message for nobody is none
+    pub is-void : o ≡ Nobody → x .kind ≡ 0
+    is-void q = go (ℕ-discrete (x .kind) 0)
+      where
+        go : Dec (x .kind ≡ 0) → x .kind ≡ 0
+        go (yes z) = z
+        go (no z) = let f = message-of z in absurd (omega (arith, f .some-receiver, rw (sym w ∙ q) at (f .receiver)))
+
+    pub arrived : (who : Party) → o ≡ who → (who ≡ Nobody → ⊥) → Arrived who m s x
+    unfolding receiverOf
+    arrived who q z =
+        let some : x .kind ≡ 0 → ⊥ = λ k. z (sym q ∙ w ∙ ap receiverOf k) in
+        let f = message-of some in
+        let n = numbers-of m (g .fine) in
+        let from : x .sender ≤ 8 = omega (arith, f .sender, many-eight (machineOf m .conf) n (senderOf (x .kind))) in
+        let to : x .receiver ≤ manyOf (machineOf m .conf) who = rw (sym w ∙ q) at (f .receiver) in
+        record {
+          long = g .long;
+          fine = g .fine;
+          slot = b;
+          here = e;
+          some = some;
+          whose = sym w ∙ q;
+          sender = record { low = f .some-sender; high = omega arith };
+          few = from;
+          set = below-two (machineOf m .conf .replicas) 16 (x .set) (f .set) (omega (arith, n .few-replicas));
+          low = f .some-receiver;
+          high = omega (arith, to, many-few (machineOf m .conf) n who);
+          inside = to;
+        }

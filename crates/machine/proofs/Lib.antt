@@ -1,0 +1,19 @@
+-- The laws behind the functions.
+pub mod Places
+pub mod Sending
+pub mod Steps
+pub mod Stored
+pub mod Arrivals
+pub mod Landings
+pub mod Directories
+pub mod Replicas
+pub mod Clients
+pub mod Receivers
+pub mod Pageless
+pub mod Parties
+pub mod Quiet
+pub mod Rooms
+pub mod Crashed
+pub mod Started
+pub mod Laid
+pub mod Downs

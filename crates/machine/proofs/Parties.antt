@@ -1,0 +1,50 @@
+-- A party whose number is in range, on a machine that is not bad: where its row stands.
+use mathlib.Core.Path.{_≡_, sym, _∙_}
+use mathlib.Core.Bool.{Bool, true, false, not, and-false}
+use mathlib.Core.List.{List}
+use Prim.Native.Nat.{ℕ, suc, _-_, _≤_, _<_}
+use native.Mathlib.Omega.{arith}
+use borrow.Author.Tests.{not-false}
+use Rattle.tables.specs.declared.Conf.{Conf}
+use Rattle.tables.specs.declared.Party.{Party}
+use Rattle.tables.specs.Words.{confOf, machineOf}
+use Rattle.inspect.specs.Good.{between, isParty, goodNumbers}
+use Rattle.inspect.proofs.Tests.{le-by}
+use Rattle.inspect.proofs.Facts.{NumbersFacts, numbers-facts, numbers-pass, good-machine}
+use Rattle.machine.specs.Inner.{Ready}
+
+-- b tells whether id is one of n parties
+module _ (id n : ℕ) (b : Bool) (e : b ≡ between 1 n id) (h : not b ≡ false) where
+  is-party : between 1 n id ≡ true
+  is-party = sym e ∙ not-false b h
+
+  pub party-low : 1 ≤ id
+  party-low = le-by 1 id (between 1 n id) (λ f. simp f) is-party
+
+  pub party-high : id ≤ n
+  party-high = le-by id n (between 1 n id) (λ f. simp (f, and-false)) is-party
+
+  pub party-row : suc (id - 1) ≡ id
+  party-row = omega (arith, party-low)
+
+pub own-party : (m : List ℕ) (k : Conf) → k ≡ confOf m → (who : Party) (id : ℕ) (b : Bool) → b ≡ isParty k who id → isParty (machineOf m .conf) who id ≡ b
+unfolding machineOf
+own-party m k at who id b e = rw (← at, e)
+
+-- the numbers of a machine that is not bad
+pub ready-numbers : (m : List ℕ) → Ready m → (k : Conf) → k ≡ confOf m → goodNumbers k ≡ true
+unfolding machineOf
+ready-numbers m g k at = rw at (numbers-pass (machineOf m) (good-machine m (g .fine)))
+
+module _ (m : List ℕ) (g : Ready m) (k : Conf) (at : k ≡ confOf m) (id : ℕ) (b : Bool) (h : not b ≡ false) where
+  numbers : NumbersFacts k
+  numbers = numbers-facts k (ready-numbers m g k at)
+
+  pub client-place : b ≡ between 1 (k .clients) id → id - 1 < 8
+  client-place e = omega (arith, numbers .few-clients, party-high id (k .clients) b e h)
+
+  pub directory-place : b ≡ between 1 (k .directories) id → id - 1 < 5
+  directory-place e = omega (arith, numbers .few-directories, party-high id (k .directories) b e h)
+
+  pub replica-place : b ≡ between 1 (k .replicas) id → id - 1 < 7
+  replica-place e = omega (arith, numbers .few-replicas, party-high id (k .replicas) b e h)

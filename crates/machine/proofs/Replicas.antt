@@ -1,0 +1,95 @@
+-- A delivery to a replica.
+use mathlib.Core.Path.{_≡_, sym, ap, _∙_}
+use mathlib.Core.Bool.{Bool, true, false}
+use mathlib.Core.List.{List}
+use Prim.Native.Nat.{ℕ, suc, _-_, _^_, _≤_, _<_}
+use native.Mathlib.Omega.{arith}
+use borrow.Author.Tests.{eq-eqb, ne-eqb}
+use lib.Dec.{eqb}
+use lib.ListN.{drop}
+use Rattle.sets.specs.Sets.{only, all}
+use Rattle.sets.proofs.Laws.{only-lt, all-lt}
+use Rattle.sets.proofs.Tests.{if-ind}
+use Rattle.tables.specs.declared.Conf.{Conf}
+use Rattle.tables.specs.declared.Entry.{Entry}
+use Rattle.tables.specs.declared.Message.{Message}
+use Rattle.tables.specs.declared.Party.the-variants.{AReplica}
+use Rattle.tables.specs.Tables.{Page, noMessage, replicaAt, slotAt, withSlot}
+use Rattle.tables.specs.Words.{confOf, words, machineOf}
+use Rattle.rules.specs.declared.Answer.{Answer}
+use Rattle.rules.specs.declared.Post.{Post}
+use Rattle.rules.specs.Answers.{coded}
+use Rattle.rules.specs.Replica.{isFull, replicaAfter, replicaPost}
+use Rattle.machine.specs.Effects.{Effect, replica}
+use Rattle.machine.specs.Calls.{isDown}
+use Rattle.machine.specs.Deliver.{taken, replicaEffect, deliverEffect}
+use Rattle.machine.specs.Refusals.{isOverfull}
+use Rattle.machine.specs.Inner.{Arrived, Delivered, hasRoom, Committed, stocked}
+use Rattle.machine.proofs.Arrivals.{numbers-of, conf-of, below-two}
+use Rattle.machine.proofs.Landings.{own, effect-up, lands, overfull, drops, page-kept}
+
+module _ {m : List ℕ} {s : ℕ} {x : Message} (g : Arrived AReplica m s x) where
+  pub directories-few : (k : Conf) → k ≡ confOf m → k .directories ≤ 31
+  directories-few k e = let n = numbers-of m (g .fine) in rw (e ∙ conf-of m) (omega (arith, n .few-directories))
+
+  -- it replies to the sender alone, or tells every directory
+  pub replica-few : (k : Conf) (es : List Entry) (p : Post) → k ≡ confOf m → p ≡ replicaPost (k .directories) es x → p .to < 2 ^ 16
+  unfolding replicaPost
+  replica-few k es p c e =
+      let h : only (x .sender) < 2 ^ 16 = only-lt 16 (x .sender) (omega (arith, g .few)) in
+      let n = numbers-of m (g .fine) in
+      let l : k .directories ≤ 16 = rw (c ∙ conf-of m) (omega (arith, n .few-directories)) in
+      let d : all (k .directories) < 2 ^ 16 = below-two (k .directories) 16 (all (k .directories)) (all-lt (k .directories)) l in
+      rw e
+      (if-ind few (eqb (x .kind) 9) (λ _. h)
+      (λ _. if-ind few (eqb (x .kind) 10) (λ _. h)
+      (λ _. if-ind few (eqb (x .kind) 15) (λ _. d) (λ _. omega arith))))
+    where
+      few : Post → Type 0
+      few p = p .to < 2 ^ 16
+
+  -- the test of 23, said of the receiver's row
+  over : (b : Bool) → isOverfull (machineOf m) x ≡ b → isOverfull (machineOf m) (slotAt (machineOf m) (suc s)) ≡ b
+  over b h = ap (λ (y : Message). isOverfull (machineOf m) y) (sym (g .here)) ∙ h
+
+  module _ (f : ℕ) (e : f ≡ replicaAt (machineOf m) (suc (x .receiver - 1)) .down) where
+    flag : (b : Bool) → eqb f 1 ≡ b → isDown (machineOf m) AReplica (x .receiver) ≡ b
+    flag b h = ap (λ (n : ℕ). eqb n 1) (sym (e ∙ ap (λ (n : ℕ). replicaAt (machineOf m) n .down) (own g))) ∙ h
+
+    pub replica-down : (a : Answer) (l : List ℕ) → f ≡ 1 → a ≡ coded 4 → l ≡ words (withSlot (machineOf m) (suc s) noMessage) (drop 4992 m)
+        → Delivered (machineOf m) (suc s) a m l
+    replica-down a l z h k =
+        let d : isDown (machineOf m) AReplica (x .receiver) ≡ true = flag true (eq-eqb _ _ z) in
+        record { took = λ page. drops g page d (over false (rw d)) a l h k }
+
+    module _ (z : f ≡ 1 → ⊥) (b : Bool) (r : b ≡ isFull (replicaAt (machineOf m) (suc (x .receiver - 1)) .entries) x) where
+      up : isDown (machineOf m) AReplica (x .receiver) ≡ false
+      up = flag false (ne-eqb _ _ z)
+
+      by-entries : isOverfull (machineOf m) x ≡ b
+      by-entries = rw up (sym (r ∙ ap (λ (n : ℕ). isFull (replicaAt (machineOf m) n .entries) x) (own g)))
+
+      pub replica-full : (a : Answer) → b ≡ true → a ≡ coded 23 → Delivered (machineOf m) (suc s) a m m
+      replica-full a t h = record { took = λ page. overfull g page (over true (by-entries ∙ t)) a h }
+
+      pub replica-takes : (k : Conf) (p : Post) (a : Answer) (l : List ℕ) → b ≡ false → k ≡ confOf m
+          → p ≡ replicaPost (k .directories) (replicaAt (machineOf m) (suc (x .receiver - 1)) .entries) x
+          → Committed m s (replica (suc (x .receiver - 1)) (stocked (machineOf m) (suc (x .receiver - 1)) (replicaAfter (replicaAt (machineOf m) (suc (x .receiver - 1)) .entries) x))) p (coded 0) a l
+          → Delivered (machineOf m) (suc s) a m l
+      unfolding replicaEffect
+      replica-takes k p a l t c q w =
+          record {
+            took = λ page.
+                lands g page (over false (by-entries ∙ t))
+                (replica (suc (x .receiver - 1)) (stocked (machineOf m) (suc (x .receiver - 1)) (replicaAfter (replicaAt (machineOf m) (suc (x .receiver - 1)) .entries) x)))
+                p (coded 0) page (effect page) (replica-few k _ p c q) a page l w (page-kept (hasRoom (machineOf m) p) page);
+          }
+        where
+          written : ℕ → Page → Effect
+          written n page =
+              taken (suc s) (replica n (stocked (machineOf m) n (replicaAfter (replicaAt (machineOf m) n .entries) x)))
+              (replicaPost (machineOf m .conf .directories) (replicaAt (machineOf m) n .entries) x) (coded 0) page
+
+          effect : (page : Page) → deliverEffect (machineOf m) (suc s) page
+              ≡ taken (suc s) (replica (suc (x .receiver - 1)) (stocked (machineOf m) (suc (x .receiver - 1)) (replicaAfter (replicaAt (machineOf m) (suc (x .receiver - 1)) .entries) x))) p (coded 0) page
+          effect page = effect-up g page up ∙ ap (λ (n : ℕ). written n page) (sym (own g)) ∙ rw (q, c, conf-of m)

@@ -1,0 +1,91 @@
+-- A step by its refusal, what a buffer shows of it, and a call by its state.
+use mathlib.Core.Path.{_≡_, refl, sym, ap, _∙_}
+use mathlib.Core.Bool.{Bool, true, false, not, _||_}
+use mathlib.Core.List.{List}
+use Prim.Native.Nat.{ℕ, _≤_}
+use native.Mathlib.Omega.{arith}
+use borrow.Author.Tests.{ne-eqb, eqb-true, ltb-false, not-false}
+use lib.Dec.{ltb, eqb}
+use lib.ListN.{length, drop}
+use Rattle.sets.specs.Choice.{if_then_else_}
+use Rattle.tables.specs.Tables.{Machine}
+use Rattle.tables.specs.Words.{words, machineOf}
+use Rattle.tables.proofs.Round.{words-back}
+use Rattle.inspect.specs.Good.{good}
+use Rattle.rules.specs.declared.Answer.{Answer}
+use Rattle.rules.specs.Answers.{coded}
+use Rattle.machine.specs.Effects.{Effect}
+use Rattle.machine.specs.Calls.{Call}
+use Rattle.machine.specs.Refusals.{refusal}
+use Rattle.machine.specs.Steps.{Result, refused, effectOf, pageIn, accepted, step}
+use Rattle.machine.specs.Buffers.{wrongPage, asksMachine, left, call, Gives}
+use Rattle.machine.specs.Inner.{stateOf, Ready, Took}
+
+module _ (c : Call) (M : Machine) where
+  -- what an accepted call leads to
+  abbrev pub taken : Result
+  taken = let e : Effect = effectOf c M in record { answer = e .answer; page = e .page; machine = accepted c M e }
+
+  pub step-refused : (code : ℕ) → (code ≡ 0 → ⊥) → refusal c M (effectOf c M) ≡ code → step c M ≡ refused code (pageIn c) M
+  unfolding step
+  step-refused code z e = rw (e, ne-eqb code 0 z)
+
+  pub step-accepted : refusal c M (effectOf c M) ≡ 0 → step c M ≡ taken
+  unfolding step
+  step-accepted e = rw e
+
+-- ---- the buffer of a step that was refused, and of one that was taken
+pub took-refused : (c : Call) (m : List ℕ) (code : ℕ) (a : Answer) → 4992 ≤ length m → (code ≡ 0 → ⊥)
+    → refusal c (machineOf m) (effectOf c (machineOf m)) ≡ code → a ≡ coded code → Took (step c (machineOf m)) a (pageIn c) m m
+took-refused c m code a l z e h =
+    rw (step-refused c (machineOf m) code z e) (record { answer = h; page = refl; buffer = sym (words-back m l) })
+
+pub took-accepted : (c : Call) (m n p : List ℕ) (a : Answer) → refusal c (machineOf m) (effectOf c (machineOf m)) ≡ 0
+    → a ≡ taken c (machineOf m) .answer → p ≡ taken c (machineOf m) .page → n ≡ words (taken c (machineOf m) .machine) (drop 4992 m)
+    → Took (step c (machineOf m)) a p m n
+took-accepted c m n p a e h g k = rw (step-accepted c (machineOf m) e) (record { answer = h; page = g; buffer = k })
+
+-- ---- SIZE, BAD MACHINE, and then the step; s is the state of a buffer whose call has a page of n words
+
+-- 0 is neither
+neither : (b g : Bool) → _≡_ {A = ℕ} (if b then 16 else if not g then 17 else 0) 0 → (b ≡ false) × (g ≡ true)
+neither true g e = absurd (omega arith)
+neither false true e = (refl, refl)
+neither false false e = absurd (omega arith)
+
+first-of : (b d : Bool) → b || d ≡ false → b ≡ false
+first-of true d e = e
+first-of false d e = refl
+
+second-of : (b d : Bool) → b || d ≡ false → d ≡ false
+second-of true true e = e
+second-of true false e = refl
+second-of false d e = e
+
+module _ (m : List ℕ) (n s : ℕ) (e : s ≡ stateOf m n) where
+  both : s ≡ 0 → (ltb (length m) 4992 || not (eqb n 16) ≡ false) × (good m ≡ true)
+  unfolding stateOf
+  both z = neither (ltb (length m) 4992 || not (eqb n 16)) (good m) (sym e ∙ z)
+
+  pub is-ready : s ≡ 0 → Ready m
+  is-ready z =
+      record { long = ltb-false (length m) 4992 (first-of (ltb (length m) 4992) (not (eqb n 16)) (both z .0)); fine = both z .1 }
+
+  pub is-sixteen : s ≡ 0 → n ≡ 16
+  is-sixteen z = eqb-true n 16 (not-false (eqb n 16) (second-of (ltb (length m) 4992) (not (eqb n 16)) (both z .0)))
+
+  module _ (c : Call) (w : wrongPage c ≡ not (eqb n 16)) (k : asksMachine c ≡ true) where
+    pub call-refused : (a : Answer) → (s ≡ 0 → ⊥) → a ≡ coded s → Gives (call c m) a (pageIn c) m
+    unfolding call stateOf
+    call-refused a z h = rw (w, k) (go (ltb (length m) 4992 || not (eqb n 16)) (good m) e)
+      where
+        go : (b g : Bool) → s ≡ (if b then 16 else if not g then 17 else 0)
+            → Gives (if b then left (coded 16) (pageIn c) m else if not g then left (coded 17) (pageIn c) m else left (step c (machineOf m) .answer) (step c (machineOf m) .page) (words (step c (machineOf m) .machine) (drop 4992 m)))
+            a (pageIn c) m
+        go true g q = record { answer = h ∙ ap coded q; page = refl; buffer = refl }
+        go false false q = record { answer = h ∙ ap coded q; page = refl; buffer = refl }
+        go false true q = absurd (z q)
+
+    pub call-taken : (a : Answer) (p l : List ℕ) → s ≡ 0 → Took (step c (machineOf m)) a p m l → Gives (call c m) a p l
+    unfolding call
+    call-taken a p l z t = rw (w, k, both z .0, both z .1) (record { answer = t .answer; page = t .page; buffer = t .buffer })

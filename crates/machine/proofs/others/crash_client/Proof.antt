@@ -1,0 +1,40 @@
+use mathlib.Core.Path.{_≡_, sym, ap}
+use mathlib.Core.Bool.{Bool, true, false, not}
+use mathlib.Core.List.{List, []}
+use Prim.Native.Nat.{ℕ, suc, _-_}
+use borrow.Author.Needs.{needs}
+use lib.ListN.{drop}
+use Rattle.tables.specs.declared.Conf.{Conf}
+use Rattle.tables.specs.declared.Client.{Client}
+use Rattle.tables.specs.Tables.{clientAt, withClient}
+use Rattle.tables.specs.Words.{confOf, words, machineOf}
+use Rattle.inspect.specs.Good.{between}
+use Rattle.rules.specs.declared.Answer.{Answer}
+use Rattle.rules.specs.Answers.{coded}
+use Rattle.machine.specs.Calls.{crash, partyOf, downClient}
+use Rattle.machine.specs.Steps.{step}
+use Rattle.machine.specs.Inner.{Ready, Took}
+use Rattle.machine.proofs.Parties.{party-low, client-place}
+use Rattle.machine.proofs.Crashed.{crash-out, crash-down, crash-done}
+use Rattle.machine.proofs.others.crash_client.Statement.{statement}
+use Rattle.machine.proofs.others.crash_client.Tie as tie
+
+module _ (m : List ℕ) (g : Ready m) (id : ℕ) (k : Conf) (at : k ≡ confOf m) (b : Bool) (e : b ≡ between 1 (k .clients) id) (a : Answer) where
+  module _ (h : not b ≡ false) (w : Client) (f : w ≡ clientAt (machineOf m) (suc (id - 1))) where
+    down : w .down ≡ 1 → a ≡ coded 19 → Took (step (crash 1 id) (machineOf m)) a [] m m
+    unfolding partyOf
+    down z q = crash-down m g 1 id k at b e a h (w .down) (ap (λ (x : Client). x .down) (sym f)) z q
+
+    done : (l : List ℕ) → (w .down ≡ 1 → ⊥) → a ≡ coded 0 → l ≡ words (withClient (machineOf m) (suc (id - 1)) (downClient w)) (drop 4992 m)
+        → Took (step (crash 1 id) (machineOf m)) a [] m l
+    unfolding partyOf
+    done l z q s = crash-done m g 1 id k at b e a h (w .down) (ap (λ (x : Client). x .down) (sym f)) l z q (rw f at s)
+
+pub crash-client-spec : {M : Type 1} → statement M
+unfolding partyOf
+crash-client-spec =
+    tie.close
+    (tie.spec (λ c κs. search needs) (λ c κs. search needs) (λ c κs. search needs) (λ c. search needs) (λ c. search crash-out)
+    (λ c. search party-low) (λ c. search needs) (λ c κs. (search needs, search client-place)) (λ c κs. search needs)
+    (λ c. search needs) (λ c. search down) (λ c κs. (search needs, search client-place)) (λ c κs. search needs)
+    (λ c. search needs) (λ c. search done))

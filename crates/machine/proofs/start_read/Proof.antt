@@ -1,0 +1,25 @@
+use mathlib.Core.Path.{_≡_, refl}
+use mathlib.Core.List.{List, []}
+use Prim.Native.Nat.{ℕ}
+use borrow.Author.Needs.{needs}
+use Rattle.tables.specs.Tables.{noPage}
+use Rattle.tables.specs.Words.{machineOf}
+use Rattle.rules.specs.declared.Answer.{Answer}
+use Rattle.machine.specs.Calls.{startRead}
+use Rattle.machine.specs.Buffers.{call, Gives}
+use Rattle.machine.specs.Inner.{stateOf, Took, startStep}
+use Rattle.machine.proofs.Started.{start-read}
+use Rattle.machine.proofs.Steps.{is-ready, call-taken}
+use Rattle.machine.proofs.Pageless.{refused-by-state}
+use Rattle.machine.proofs.start_read.Statement.{statement}
+use Rattle.machine.proofs.start_read.Tie as tie
+
+begun : (m : List ℕ) (c s : ℕ) (a : Answer) (p l : List ℕ) → s ≡ stateOf m 16 → s ≡ 0 → p ≡ noPage → Took (startStep (machineOf m) c 1 p) a [] m l
+    → Gives (call (startRead c) m) a [] l
+begun m c s a p l e z q t = call-taken m 16 s e (startRead c) refl refl a [] l z (rw (start-read c (machineOf m)) (rw q at t))
+
+pub start-read-spec : {M : Type 1} → statement M
+start-read-spec =
+    tie.close
+    (tie.spec (λ c κs. search needs) (λ c κs. search needs) (λ c. search needs) (λ c. search refused-by-state)
+    (λ c κs. search needs) (λ c κs. search is-ready) (λ c. search needs) (λ c. search begun))

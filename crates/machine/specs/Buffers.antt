@@ -1,0 +1,73 @@
+-- A call on a lent buffer: SIZE, BAD MACHINE, and then the step on the machine of its words. "Later words are never written."
+use mathlib.Core.Bool.{Bool, true, false, _&&_, _||_, not}
+use mathlib.Core.List.{List}
+use mathlib.Core.Path.{_≡_}
+use Prim.Native.Nat.{ℕ}
+use lib.Dec.{ltb, eqb}
+use lib.ListN.{length, drop}
+use Rattle.sets.specs.Choice.{if_then_else_}
+use Rattle.tables.specs.Tables.{Page}
+use Rattle.tables.specs.Words.{words, machineOf}
+use Rattle.inspect.specs.Good.{good}
+use Rattle.rules.specs.declared.Answer.{Answer}
+use Rattle.rules.specs.Answers.{coded}
+use Rattle.machine.specs.Calls.{Call, setUp, startRead, startWrite, deliver, gossip, tidy, crash, report}
+use Rattle.machine.specs.Steps.{Result, step, pageIn, waiting, partiesDown}
+use Rattle.machine.specs.declared.Counts.{Counts}
+
+-- 16 SIZE: "buffer under 4,992 words, or page not 16"
+abbrev pub wrongPage : Call → Bool
+wrongPage (setUp k page) = not (eqb (length page) 16)
+wrongPage (startWrite c page) = not (eqb (length page) 16)
+wrongPage (deliver s page) = not (eqb (length page) 16)
+wrongPage (startRead c) = false
+wrongPage (gossip from to) = false
+wrongPage (tidy r) = false
+wrongPage (crash kind id) = false
+wrongPage report = false
+
+abbrev pub wrongSize : Call → List ℕ → Bool
+wrongSize c m = ltb (length m) 4992 || wrongPage c
+
+-- 17 BAD MACHINE: "not asked at set-up"
+abbrev pub asksMachine : Call → Bool
+asksMachine (setUp k page) = false
+asksMachine (startRead c) = true
+asksMachine (startWrite c page) = true
+asksMachine (deliver s page) = true
+asksMachine (gossip from to) = true
+asksMachine (tidy r) = true
+asksMachine (crash kind id) = true
+asksMachine report = true
+
+abbrev pub badMachine : Call → List ℕ → Bool
+badMachine c m = asksMachine c && not (good m)
+
+-- what a call leaves: its answer, the page to fill, the buffer
+pub record Outcomes : Type 0 where
+  pub answer : Answer
+  pub page : Page
+  pub buffer : List ℕ
+
+abbrev pub left : Answer → Page → List ℕ → Outcomes
+left a p m = record { answer = a; page = p; buffer = m }
+
+unfoldable pub call : Call → List ℕ → Outcomes
+call c m =
+    let r : Result = step c (machineOf m) in
+    if wrongSize c m then left (coded 16) (pageIn c) m
+    else if badMachine c m then left (coded 17) (pageIn c) m
+    else left (r .answer) (r .page) (words (r .machine) (drop 4992 m))
+
+-- the contract of a call
+pub record Gives (o : Outcomes) (a : Answer) (p m : List ℕ) : Type 0 where
+  pub answer : a ≡ o .answer
+  pub page : p ≡ o .page
+  pub buffer : m ≡ o .buffer
+
+-- report adds its two numbers, zero when refused
+unfoldable pub reported : List ℕ → Counts
+reported m =
+    if ltb (length m) 4992 then record { code = 16; waiting = 0; down = 0 }
+    else if not (good m) then record { code = 17; waiting = 0; down = 0 }
+    else record { code = 0; waiting = waiting (machineOf m); down = partiesDown (machineOf m) }

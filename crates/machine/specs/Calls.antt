@@ -1,0 +1,83 @@
+-- The calls, and the effect of each but deliver and set-up.
+use mathlib.Core.Bool.{Bool}
+use mathlib.Core.List.{List, []}
+use Prim.Native.Nat.{ℕ}
+use lib.Dec.{eqb}
+use Rattle.sets.specs.Choice.{if_then_else_}
+use Rattle.tables.specs.declared.Conf.{Conf}
+use Rattle.tables.specs.declared.Client.{Client}
+use Rattle.tables.specs.declared.Directory.{Directory}
+use Rattle.tables.specs.declared.Party.{Party}
+use Rattle.tables.specs.declared.Party.the-variants.{Nobody, AClient, ADirectory, AReplica}
+use Rattle.tables.specs.Tables.{Page, Replica, Machine, clientAt, directoryAt, replicaAt}
+use Rattle.rules.specs.declared.Post.{Post}
+use Rattle.rules.specs.Posts.{noPost}
+use Rattle.rules.specs.Answers.{coded}
+use Rattle.rules.specs.Client.{started, request}
+use Rattle.rules.specs.Replica.{tidied, gossipPost}
+use Rattle.machine.specs.Effects.{Change, nothing, client, directory, replica, Effect}
+
+pub data Call : Type 0 where
+  setUp : Conf → Page → Call
+  startRead : ℕ → Call
+  startWrite : ℕ → Page → Call
+  deliver : ℕ → Page → Call
+  gossip : ℕ → ℕ → Call
+  tidy : ℕ → Call
+  crash : ℕ → ℕ → Call
+  report : Call
+
+-- the party of a kind that a number names is down
+abbrev pub downWord : Machine → Party → ℕ → ℕ
+downWord M Nobody p = 0
+downWord M AClient p = clientAt M p .down
+downWord M ADirectory p = directoryAt M p .down
+downWord M AReplica p = replicaAt M p .down
+
+abbrev pub isDown : Machine → Party → ℕ → Bool
+isDown M who p = eqb (downWord M who p) 1
+
+-- DONE, with no slot emptied
+abbrev pub done : Change → Post → Effect
+done change post = record { emptied = []; change = change; post = post; answer = coded 0; page = [] }
+
+-- "Start read: message number plus 1, phase 1, rread to every directory. Start write keeps the page; phase 4, wread to every directory."
+unfoldable pub startEffect : Machine → ℕ → ℕ → Page → Effect
+startEffect M c phase page =
+    let w : Client = started (clientAt M c) phase page in
+    done (client c w) (request (M .conf) c w)
+
+unfoldable pub gossipEffect : Machine → ℕ → ℕ → Effect
+gossipEffect M from to = done nothing (gossipPost (replicaAt M from .entries) from to)
+
+unfoldable pub tidyEffect : Machine → ℕ → Effect
+tidyEffect M r =
+    let w : Replica = replicaAt M r in
+    done (replica r (record { down = w .down; entries = tidied (w .entries) })) noPost
+
+-- "Crash of a party (1 client, 2 directory, 3 replica): down becomes 1. Its waiting messages stay."
+unfoldable pub partyOf : ℕ → Party
+partyOf kind =
+    if eqb kind 1 then AClient
+    else if eqb kind 2 then ADirectory
+    else if eqb kind 3 then AReplica
+    else Nobody
+
+abbrev pub downClient : Client → Client
+downClient w =
+    record { down = 1; phase = w .phase; number = w .number; answered = w .answered; replicas = w .replicas; tag = w .tag; spare = w .spare; page = w .page }
+
+abbrev pub downDirectory : Directory → Directory
+downDirectory d = record { down = 1; tag = d .tag; set = d .set }
+
+abbrev pub downReplica : Replica → Replica
+downReplica r = record { down = 1; entries = r .entries }
+
+abbrev pub downed : Machine → Party → ℕ → Change
+downed M Nobody p = nothing
+downed M AClient p = client p (downClient (clientAt M p))
+downed M ADirectory p = directory p (downDirectory (directoryAt M p))
+downed M AReplica p = replica p (downReplica (replicaAt M p))
+
+unfoldable pub crashEffect : Machine → ℕ → ℕ → Effect
+crashEffect M kind id = done (downed M (partyOf kind) id) noPost

@@ -1,0 +1,10 @@
+-- The machine's calls, document 01, "Steps" and "What a call hands back". The laws stand in proofs/.
+pub mod Slots
+pub mod Effects
+pub mod Calls
+pub mod Deliver
+pub mod Refusals
+pub mod Steps
+pub mod Buffers
+pub mod Inner
+pub mod Rehearsal

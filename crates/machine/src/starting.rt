@@ -1,0 +1,61 @@
+// Start read and start write.
+ghost use mathlib.Core.Path.{_≡_};
+ghost use mathlib.Core.List.{[]};
+ghost use Rattle.tables.specs.Words.{machineOf};
+ghost use Rattle.machine.specs.Inner.{Ready, Took, Launches, standing, launchStep, startStep};
+use crate::send;
+use inspect::fields;
+use rules::Answer;
+use rules::request;
+use tables::Client;
+use tables::Conf;
+use tables::places;
+use tables::rows;
+
+// 19, 20, 21 or 0, by a client's row.
+fn state_of(k: Conf, w: Client) -> u32
+    ensures { λ r. ⌜ r ≡ standing k w ⌝ }
+{
+    if w.down == 1 {
+        return 19;
+    }
+    if w.phase != 0 {
+        return 20;
+    }
+    if (k.top as u64) < w.number as u64 + 3 {
+        return 21;
+    }
+    0
+}
+
+// The row y of client c, and the request of its phase, where there is room.
+fn launch(m: &mut [u32], k: Conf, c: u32, y: Client) -> Answer
+    requires { ⌜ Launches (now m) k c y ⌝ }
+    ensures { λ r. ⌜ Took (launchStep (machineOf (now (m .entry))) k c y) r [] (now (m .entry)) (now (m .exit)) ⌝ }
+{
+    let p = request::request_of(k, c, y);
+    if !send::room(m, 0, p.to) {
+        return request::plain(24);
+    }
+    places::set_client(m, (c - 1) as usize, y);
+    send::send(m, p);
+    request::plain(0)
+}
+
+// A start in phase 1 or 4, on a machine that is not bad.
+pub fn start(m: &mut [u32], c: u32, phase: u32, page: [u32; 16]) -> Answer
+    requires { ⌜ Ready (now m) ⌝ }
+    ensures { λ r. ⌜ Took (startStep (machineOf (now (m .entry))) c phase page) r [] (now (m .entry)) (now (m .exit)) ⌝ }
+{
+    let k = rows::conf_at(m);
+    if !fields::is_between(1, k.clients, c) {
+        return request::plain(18);
+    }
+    let w = places::client(m, (c - 1) as usize);
+    let code = state_of(k, w);
+    if code != 0 {
+        return request::plain(code);
+    }
+    let y = request::start(w, phase, page);
+    launch(m, k, c, y)
+}

@@ -1,0 +1,18 @@
+use mathlib.Core.Path.{_≡_}
+use borrow.Author.Needs.{needs}
+use lib.ListN.{length}
+use Rattle.rehearse.proofs.run.Statement.{statement}
+use Rattle.rehearse.proofs.run.Tie as tie
+
+abbrev Inv-loop : tie.InvT-loop
+Inv-loop m₀ line₀ out₀ chunk₀ turns₀ s₀ m line out chunk turns s =
+    (length m ≡ length m₀) × (length line ≡ length line₀) × (length out ≡ length out₀) × (length chunk ≡ length chunk₀)
+
+abbrev μ-loop : tie.MeasureT-loop
+μ-loop m₀ line₀ out₀ chunk₀ turns₀ s₀ m line out chunk turns s = turns
+
+pub run-spec : {M : Type 1} → statement M
+run-spec =
+    tie.close
+    (tie.spec Inv-loop μ-loop (λ c. search needs) (λ c κs. search needs) (λ c. search needs) (λ c. search needs) (λ c. search needs)
+    (λ c κs. search needs) (λ c. search needs) (λ c. search needs) (λ c. search needs) (λ c. search needs) (λ c. search needs))

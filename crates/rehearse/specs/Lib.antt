@@ -1,0 +1,2 @@
+-- What the program's turns keep to.
+pub mod Turns

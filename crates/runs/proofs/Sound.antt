@@ -1,0 +1,159 @@
+-- A sound machine is good, and has the rows and pages that its words have. An effect with a good row and good messages keeps it so.
+use mathlib.Core.Bool.{Bool, true, false, _&&_}
+use mathlib.Core.List.{List, [], _∷_, map, List·Memᴰ, List·Memᴰ·head, List·Memᴰ·tail}
+use mathlib.Core.Path.{_≡_, refl, ap, subst, _∙_}
+use Prim.Native.Nat.{ℕ, suc, _≤_}
+use native.Mathlib.Omega.{arith}
+use borrow.Author.Tests.{ne-eqb}
+use lib.ListN.{length, length-set}
+use Rattle.sets.specs.Sets.{_∈_, members}
+use Rattle.sets.proofs.Members.{members-in}
+use Rattle.tables.specs.declared.Conf.{Conf}
+use Rattle.tables.specs.declared.Message.{Message}
+use Rattle.tables.specs.Kinds.{senderOf, manyOf}
+use Rattle.tables.specs.Rows.{before, putFirst}
+use Rattle.tables.specs.Tables.{Machine, noPage, noMessage, withSlots, isEmpty}
+use Rattle.tables.specs.Words.{messageWords}
+use Rattle.tables.proofs.All.{All, none, cons, all-map, all-withRow, length-withRow}
+use Rattle.tables.proofs.Lists.{putFirst-set, all-putFirst}
+use Rattle.tables.proofs.Whole.{Paged, Stocked, Whole, whole-client, whole-directory, whole-replica, whole-slots}
+use Rattle.inspect.specs.Good.{zeros, eachRow, goodMessage, clientRow, directoryRow, replicaRow, slotRow, goodMachine}
+use Rattle.inspect.proofs.Tests.{and-l, and-r}
+use Rattle.inspect.proofs.Facts.{message-facts, slots-pass}
+use Rattle.inspect.proofs.Kept.{good-client, good-directory, good-replica}
+use Rattle.rules.specs.declared.Post.{Post}
+use Rattle.rules.specs.Posts.{toReceiver, messagesOf}
+use Rattle.machine.specs.Slots.{placed, freed}
+use Rattle.machine.specs.Effects.{Change, nothing, client, directory, replica, Effect, changed, applied}
+
+pub record Sound (M : Machine) : Type 0 where
+  pub good : goodMachine M ≡ true
+  pub whole : Whole M
+
+-- ---- a test of each row that is not told the row's number
+
+and-both : (a b : Bool) → a ≡ true → b ≡ true → a && b ≡ true
+and-both a b p q = rw (p, q)
+
+module _ {A : Type 0} (test : A → Bool) where
+  pub each-in : (n : ℕ) (xs : List A) → eachRow (λ _. test) n xs ≡ true → All (λ x. test x ≡ true) xs
+  each-in n [] e = none
+  each-in n (x ∷ xs) e =
+      cons (and-l (test x) (eachRow (λ _. test) (suc n) xs) e) (each-in (suc n) xs (and-r (test x) (eachRow (λ _. test) (suc n) xs) e))
+
+  pub each-out : (n : ℕ) {xs : List A} → All (λ x. test x ≡ true) xs → eachRow (λ _. test) n xs ≡ true
+  each-out n none = refl
+  each-out n (cons {x} {xs} p ps) = and-both (test x) (eachRow (λ _. test) (suc n) xs) p (each-out (suc n) ps)
+
+-- ---- the slots
+
+-- a slot may hold the message
+pub record Stands (k : Conf) (x : Message) : Type 0 where
+  pub row : slotRow k 1 x ≡ true
+  pub page : Paged (x .page)
+
+module _ (k : Conf) where
+  slots-in : (ss : List Message) → eachRow (slotRow k) 1 ss ≡ true → All (λ (x : Message). Paged (x .page)) ss → All (Stands k) ss
+  unfolding slotRow
+  slots-in ss e ps = both (each-in (slotRow k 1) 1 ss e) ps
+    where
+      both : {ss : List Message} → All (λ x. slotRow k 1 x ≡ true) ss → All (λ (x : Message). Paged (x .page)) ss → All (Stands k) ss
+      both none none = none
+      both (cons r rs) (cons p ps) = cons (record { row = r; page = p }) (both rs ps)
+
+  slots-out : {ss : List Message} → All (Stands k) ss → eachRow (slotRow k) 1 ss ≡ true
+  unfolding slotRow
+  slots-out hs = each-out (slotRow k 1) 1 (all-map (λ x h. h .row) hs)
+
+  stands-none : Stands k noMessage
+  unfolding slotRow messageWords noMessage noPage zeros
+  stands-none = record { row = refl; page = refl }
+
+  all-placed : {xs ss : List Message} → All (Stands k) xs → All (Stands k) ss → All (Stands k) (placed xs ss)
+  all-placed none hs = hs
+  all-placed (cons {x} h rest) hs = all-placed rest (all-putFirst isEmpty x h hs)
+
+  all-freed : {ss : List Message} (emptied : List ℕ) → All (Stands k) ss → All (Stands k) (freed emptied ss)
+  all-freed [] hs = hs
+  all-freed (s ∷ emptied) hs = all-withRow s noMessage stands-none (all-freed emptied hs)
+
+length-placed : (xs ss : List Message) → length (placed xs ss) ≡ length ss
+length-placed [] ss = refl
+length-placed (x ∷ xs) ss =
+    length-placed xs (putFirst isEmpty x ss) ∙ ap length (putFirst-set isEmpty x ss) ∙ length-set ss (before isEmpty ss) x
+
+length-freed : (emptied : List ℕ) (ss : List Message) → length (freed emptied ss) ≡ length ss
+length-freed [] ss = refl
+length-freed (s ∷ emptied) ss = length-withRow (freed emptied ss) s noMessage ∙ length-freed emptied ss
+
+slots-sound : {M : Machine} {ss : List Message} → Sound M → length ss ≡ 128 → All (Stands (M .conf)) ss → Sound (withSlots M ss)
+unfolding goodMachine
+slots-sound {M} {ss} z e hs =
+    record {
+      good = rw (slots-out (M .conf) hs) (rw (slots-pass M (z .good)) at (z .good));
+      whole = whole-slots (z .whole) ss e (all-map (λ x h. h .page) hs);
+    }
+
+-- ---- what is sent
+
+-- each message that is sent is good
+pub record Sends (k : Conf) (y : Post) : Type 0 where
+  pub good : (p : ℕ) → p ∈ y .to → goodMessage k (toReceiver (y .message) p) ≡ true
+  pub page : Paged (y .message .page)
+
+-- a good message has a kind
+pub some-kind : (k : Conf) (x : Message) → goodMessage k x ≡ true → isEmpty x ≡ false
+unfolding senderOf
+some-kind k x g =
+    ne-eqb (x .kind) 0
+    (λ e. let f = message-facts k x g in
+    let l : x .sender ≤ 0 = subst (λ (n : ℕ). x .sender ≤ manyOf k (senderOf n)) e (f .sender) in
+    omega (arith, f .some-sender))
+
+stands-good : (k : Conf) (x : Message) → goodMessage k x ≡ true → Paged (x .page) → Stands k x
+unfolding slotRow
+stands-good k x g p = record { row = rw (some-kind k x g) g; page = p }
+
+all-from : {A B : Type 0} {P : B → Type 0} (f : A → B) (xs : List A) → ((a : A) → List·Memᴰ a xs → P (f a)) → All P (map f xs)
+all-from f [] h = none
+all-from f (x ∷ xs) h = cons (h x (List·Memᴰ·head refl)) (all-from f xs (λ a m. h a (List·Memᴰ·tail m)))
+
+all-sent : {k : Conf} {y : Post} → Sends k y → All (Stands k) (messagesOf y)
+unfolding messagesOf
+all-sent {k} {y} s =
+    all-from (toReceiver (y .message)) (members 16 (y .to))
+    (λ p m. stands-good k (toReceiver (y .message) p) (s .good p (members-in 16 (y .to) p m .2)) (s .page))
+
+-- ---- what is changed
+
+-- a row that may stand there
+abbrev pub Fits : Conf → Change → Type 0
+Fits k nothing = Unit {0}
+Fits k (client c w) = (clientRow k c w ≡ true) × Paged (w .page)
+Fits k (directory d w) = directoryRow k d w ≡ true
+Fits k (replica r w) = (replicaRow k r w ≡ true) × Stocked w
+
+changed-sound : {M : Machine} (x : Change) → Sound M → Fits (M .conf) x → Sound (changed x M)
+changed-sound nothing z f = z
+changed-sound {M} (client c w) z f = record { good = good-client M (z .good) c w (f .0); whole = whole-client (z .whole) c w (f .1) }
+changed-sound {M} (directory d w) z f = record { good = good-directory M (z .good) d w f; whole = whole-directory (z .whole) d w }
+changed-sound {M} (replica r w) z f = record { good = good-replica M (z .good) r w (f .0); whole = whole-replica (z .whole) r w (f .1) }
+
+pub changed-conf : (x : Change) (M : Machine) → changed x M .conf ≡ M .conf
+changed-conf nothing M = refl
+changed-conf (client c w) M = refl
+changed-conf (directory d w) M = refl
+changed-conf (replica r w) M = refl
+
+-- ---- an effect
+
+pub record Keeps (k : Conf) (e : Effect) : Type 0 where
+  pub change : Fits k (e .change)
+  pub post : Sends k (e .post)
+
+pub applied-sound : {M : Machine} {e : Effect} → Sound M → Keeps (M .conf) e → Sound (applied e M)
+applied-sound {M} {e} z f =
+    slots-sound (changed-sound (e .change) z (f .change))
+    (length-placed (messagesOf (e .post)) (freed (e .emptied) (M .slots)) ∙ length-freed (e .emptied) (M .slots) ∙ z .whole .slots)
+    (rw (changed-conf (e .change) M)
+    (all-placed (M .conf) (all-sent (f .post)) (all-freed (M .conf) (e .emptied) (slots-in (M .conf) (M .slots) (slots-pass M (z .good)) (z .whole .slot-pages)))))
