@@ -1,0 +1,46 @@
+-- The paper's rehearsal as the events of its run: the theorem speaks of something.
+use mathlib.Core.Path.{_≡_, refl}
+use mathlib.Core.List.{List, [], _∷_}
+use Prim.Native.Nat.{ℕ}
+use lib.Count.{ones, onesIn}
+use lib.ListN.{replicate}
+use Rattle.sets.specs.Tags.{against}
+use Rattle.tables.specs.declared.Conf.{Conf}
+use Rattle.tables.specs.Kinds.{senderOf, receiverOf}
+use Rattle.tables.specs.Tables.{Page, noPage, noClient, noDirectory, noEntry, noReplica, noMessage}
+use Rattle.tables.specs.Rows.{rowsWords, rowsOf, joined}
+use Rattle.tables.specs.Words.{confWords, clientWords, directoryWords, downWords, entryWords, replicaWords, messageWords, confOf, clientOf, directoryOf, entryOf, messageOf, entriesOf, replicasOf, blocks, words, machineOf}
+use Rattle.inspect.specs.Good.{goodNumbers, zeros, goodClient, goodDirectory, goodEntry, tagsOnce, goodReplica, goodMessage, clientRow, directoryRow, replicaRow, slotRow, goodMachine, good}
+use Rattle.machine.specs.Buffers.{call}
+use Rattle.rules.specs.Posts.{messagesOf}
+use Rattle.rules.specs.Quorums.{enoughToRead, enoughToWrite}
+use Rattle.rules.specs.Directory.{directoryAfter, directoryPost}
+use Rattle.rules.specs.Replica.{entryWith, raised, highest, secure, write, read, replicaAfter, replicaPost, isFull}
+use Rattle.rules.specs.Client.{awaited, enoughFor, isStale, heard, chosen, turned, outcome, clientAfter, request, secures, clientPost}
+use Rattle.machine.specs.Calls.{Call, setUp, startRead, startWrite, deliver, startEffect}
+use Rattle.machine.specs.Deliver.{clientEffect, directoryEffect, replicaEffect, deliverEffect}
+use Rattle.machine.specs.Refusals.{refusal}
+use Rattle.machine.specs.Steps.{newMachine, effectOf, step}
+use Rattle.order.specs.Run.{read-begins, write-begins, read-ends, write-ends, nothing}
+use Rattle.order.specs.Method.{events}
+use Rattle.history.specs.Show.{eventOf, onBuffer}
+
+-- a page is its first word, and zeros
+abbrev page : ℕ → Page
+page w = w ∷ replicate 15 0
+
+abbrev small : Conf
+small = record { clients = 1; directories = 1; replicas = 1; f = 0; rq = 1; wq = 1; top = 6 }
+
+abbrev at : ℕ → Call
+at s = deliver s (page 0)
+
+rehearsal : List Call
+rehearsal =
+    startWrite 1 (page 9) ∷ at 1 ∷ at 1 ∷ at 1 ∷ at 1 ∷ at 1 ∷ at 1 ∷ startRead 1 ∷ at 2 ∷ at 2 ∷ at 2 ∷ at 2 ∷ at 2 ∷ at 2 ∷ startRead 1 ∷ []
+
+rehearsed : events onBuffer (call (setUp small (page 7)) (replicate 4992 0) .buffer) rehearsal
+    ≡ write-begins 1 (page 9) ∷ nothing ∷ nothing ∷ nothing ∷ nothing ∷ nothing ∷ write-ends 1
+    ∷ read-begins 1 ∷ nothing ∷ nothing ∷ nothing ∷ nothing ∷ nothing ∷ read-ends 1 (page 9) ∷ nothing ∷ []
+unfolding call good goodMachine clientRow directoryRow replicaRow slotRow goodClient goodDirectory goodEntry goodReplica goodMessage tagsOnce zeros rowsWords rowsOf joined confWords clientWords directoryWords downWords entryWords replicaWords messageWords confOf clientOf directoryOf entryOf messageOf entriesOf replicasOf blocks words machineOf events eventOf rehearsal ones onesIn against senderOf receiverOf noPage noClient noDirectory noEntry noReplica noMessage goodNumbers messagesOf enoughToRead enoughToWrite directoryAfter directoryPost entryWith raised highest secure write read replicaAfter replicaPost isFull awaited enoughFor isStale heard chosen turned outcome clientAfter request secures clientPost startEffect clientEffect directoryEffect replicaEffect deliverEffect refusal newMachine effectOf step
+rehearsed = refl

@@ -1,0 +1,2 @@
+-- What a call shows its caller. The theorem stands in proofs/.
+pub mod Show

@@ -1,0 +1,24 @@
+//! Schedules for the step machine, the comparison of two machines on them, the line of
+//! operations of what they answered, and pictures.
+#![forbid(unsafe_code)]
+
+pub mod compare;
+pub mod draw;
+pub mod external;
+pub mod history;
+pub mod jam;
+pub mod night;
+pub mod odd;
+pub mod order;
+pub mod prng;
+pub mod profile;
+pub mod schedule;
+pub mod shrink;
+pub mod steps;
+pub mod story;
+pub mod svg;
+pub mod tally;
+pub mod view;
+
+pub use compare::{compare, compare_all, Difference};
+pub use schedule::{cold_schedule, schedule};

@@ -1,0 +1,50 @@
+//! What a generator or a picture wants to know of a machine.
+
+use plain::layout::*;
+use plain::mail::{self, Message};
+use plain::{Numbers, Words};
+
+pub fn waiting(m: &Words) -> Vec<u32> {
+    (1..=SLOTS as u32).filter(|&slot| m[slot_at(slot)] != 0).collect()
+}
+
+pub fn message(m: &Words, slot: u32) -> Option<Message> {
+    (m[slot_at(slot)] != 0).then(|| mail::read(m, slot))
+}
+
+pub fn is_down(m: &Words, party: Party, id: u32) -> bool {
+    m[down_at(party, id)] != 0
+}
+
+pub fn down_count(m: &Words, party: Party, count: u32) -> u32 {
+    (1..=count).filter(|&id| is_down(m, party, id)).count() as u32
+}
+
+/// Clients that a start would not refuse by themselves.
+pub fn startable(m: &Words, n: &Numbers) -> Vec<u32> {
+    let ready = |&id: &u32| {
+        let row = &m[client_at(id)..];
+        row[0] == 0 && row[1] == IDLE && u64::from(row[2]) + 3 <= u64::from(n.top)
+    };
+    (1..=n.nc).filter(ready).collect()
+}
+
+/// The client at one end of a message, if any.
+pub fn client_of(message: &Message) -> Option<u32> {
+    match ends(message.kind) {
+        (Party::Client, _) => Some(message.from),
+        (_, Party::Client) => Some(message.to),
+        _ => None,
+    }
+}
+
+/// Whether a message touches one of these directories or replicas.
+pub fn touches(message: &Message, directories: u32, replicas: u32) -> bool {
+    let (from, to) = ends(message.kind);
+    let hit = |party, id| match party {
+        Party::Client => false,
+        Party::Directory => directories & bit(id) != 0,
+        Party::Replica => replicas & bit(id) != 0,
+    };
+    hit(from, message.from) || hit(to, message.to)
+}
