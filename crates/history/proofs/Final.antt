@@ -1,9 +1,8 @@
--- THE THIRD DEMAND of the layered machine: from an accepted set-up with first page p on, the finished reads and writes,
--- with some unfinished writes put in, stand in one line that keeps real-time order, and each read shows the page of the last write before it, or p.
+-- THE THIRD DEMAND of the layered machine, over its steps and over a lent buffer.
 use mathlib.Core.Path.{_≡_, refl, subst, sym}
 use mathlib.Core.Bool.{true, not}
 use mathlib.Core.Logic.{_⊎_, inl, inr}
-use mathlib.Core.List.{List}
+use mathlib.Core.List.{List, _∷_, _++_}
 use Prim.Native.Nat.{ℕ}
 use native.Mathlib.Omega.{arith}
 use lib.Dec.{T, eqb, eqb→eq}
@@ -21,9 +20,10 @@ use Rattle.machine.specs.Buffers.{wrongPage, Outcomes, call}
 use Rattle.runs.proofs.Ways.{StepWay, refuses, accepts, step-way, allowed, CallWay, sized, bad, steps, call-way, is-paged}
 use Rattle.runs.proofs.New.{new-sound}
 use Rattle.runs.proofs.Reached.{step-sound}
-use Rattle.order.specs.Run.{Event, nothing, Proper, OneLine}
+use Rattle.order.specs.Run.{_∈_, Event, nothing, reading, Op, ops, Proper, Finished, EndedBefore, last-page, OneLine}
 use Rattle.order.specs.Method.{events, AllMeant, Fresh, SeenAs}
 use Rattle.order.proofs.Atomic.{atomic, atomic-seen}
+use Rattle.order.proofs.Hours.{hours}
 use Rattle.history.specs.Show.{eventOf, Renews, onMachine, onBuffer}
 use Rattle.history.proofs.Ways.{refused-shows}
 use Rattle.history.proofs.Walk.{Good, layered, keeps}
@@ -83,3 +83,8 @@ module _ (m : List ℕ) (k : Conf) (p : Page) (accepted : call (setUp k p) m .an
 
   pub in-one-line : OneLine p run
   in-one-line = both .1
+
+  -- operation a had ended when read r began: a stands earlier in the line, and r shows the page of the last write between the two, or a's own where none is
+  pub never-older : (a r : Op) → a ∈ ops run → r ∈ ops run → EndedBefore a r → r .kind ≡ reading → Finished r
+      → (xs : List Op) × (ys : List Op) × (zs : List Op) × (in-one-line .line ≡ xs ++ a ∷ (ys ++ r ∷ zs)) × (r .page ≡ last-page (a .page) ys)
+  never-older = hours p run in-one-line
