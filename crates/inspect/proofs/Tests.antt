@@ -1,7 +1,7 @@
 -- Tests and their outcomes: a conjunct of a test that passes, and words joined by `|`.
 use mathlib.Core.Bool.{Bool, true, false, _&&_, and-true, and-false, and-assoc}
-use mathlib.Core.List.{List}
-use mathlib.Core.Path.{_≡_, refl, sym, _∙_}
+use mathlib.Core.List.{List, [], _∷_, _++_}
+use mathlib.Core.Path.{_≡_, refl, sym, ap, _∙_}
 use Prim.Native.Nat.{ℕ, _+_, _≤_, _<_}
 use native.Mathlib.Numerals.{add-one}
 use native.Mathlib.Omega.{arith}
@@ -9,7 +9,7 @@ use borrow.Author.Tests.{eq-eqb, ne-eqb, eqb-true, eqb-false, leb-true}
 use lib.Bits.{bitOr, or-add-and, and-le-l, and-le-r}
 use lib.Dec.{leb, eqb}
 use lib.ListN.{length, getD, take, drop, drop-of-length-le}
-use lib.Seq.{drop-cons, take-all}
+use lib.Seq.{drop-cons, take-add, take-all}
 use Rattle.sets.proofs.Tests.{passes-by}
 use Rattle.inspect.specs.Good.{zeros, field}
 
@@ -55,6 +55,15 @@ module _ (s : List ℕ) (any i : ℕ) (passed : eqb any 0 && zeros (drop i s) �
   pub zeros-end : length s ≤ i → eqb any 0 ≡ zeros s
   unfolding zeros
   zeros-end h = sym (and-true _) ∙ (rw (drop-of-length-le s h) at passed)
+
+zeros-append : (xs ys : List ℕ) → zeros (xs ++ ys) ≡ zeros xs && zeros ys
+unfolding zeros
+zeros-append [] ys = refl
+zeros-append (n ∷ xs) ys = rw (zeros-append xs ys, and-assoc)
+
+-- a row of n + k words is zero where its first n and its last k are
+pub zeros-parts : (n k : ℕ) (l : List ℕ) → length l ≡ n + k → zeros (take n l) && zeros (take k (drop n l)) ≡ zeros l
+zeros-parts n k l wide = sym (zeros-append (take n l) (take k (drop n l))) ∙ ap zeros (sym (take-add n k l) ∙ take-all (n + k) l (omega arith))
 
 -- a row of n words is zero where the words written from it are
 pub own-words : (n : ℕ) (l w : List ℕ) → length l ≡ n → (n ≤ length l → w ≡ take n l) → zeros l ≡ zeros w

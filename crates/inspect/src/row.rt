@@ -1,6 +1,6 @@
 // One row in use, by its fields.
 ghost use mathlib.Core.Path.{_≡_};
-ghost use Rattle.inspect.specs.Good.{goodClient, goodDirectory, goodMessage};
+ghost use Rattle.inspect.specs.Good.{zeros, goodClient, goodDirectory, goodMessage};
 ghost use Rattle.inspect.specs.Inner.{Few};
 use crate::fields;
 use tables::Client;
@@ -36,13 +36,13 @@ pub fn directory(k: Conf, d: Directory) -> bool
     (d.down <= 1) & fields::tag(k, t) & (d.set < fields::sets_of(k.replicas))
 }
 
-pub fn message(k: Conf, x: Message) -> bool
-    requires { ⌜ Few k ⌝ }
+// Told whether the page is zero.
+pub fn message(k: Conf, x: Message, pageless: bool) -> bool
+    requires { ⌜ Few k × (pageless ≡ zeros (x .page)) ⌝ }
     ensures { λ r. ⌜ r ≡ goodMessage k x ⌝ }
 {
     let kind = x.kind;
     let t = x.tag;
-    let page = x.page;
     let has_page = (kind == 10) | ((kind == 12) | (kind == 15));
     (kind <= 15)
         & fields::is_sender(k, kind, x.sender)
@@ -51,5 +51,5 @@ pub fn message(k: Conf, x: Message) -> bool
         & fields::set_field(k.replicas, fields::has_set(kind), x.set)
         & fields::number_field(k.top, kind, x.number)
         & (x.spare == 0)
-        & fields::page_field(has_page, page)
+        & (has_page | pageless)
 }

@@ -96,11 +96,12 @@ pub fn slot(k: Conf, l: &[u32]) -> bool
     ensures { λ r. ⌜ r ≡ slotRow k 0 (messageOf (now (l .entry))) ⌝ }
 {
     let kind = l[0];
+    let pageless = fields::zero(&l[8..24]);
     if kind == 0 {
-        return fields::zero(l);
+        return fields::zero(&l[0..8]) & pageless;
     }
     let x = rows::message_at(l);
-    row::message(k, x)
+    row::message(k, x, pageless)
 }
 
 pub fn slots(k: Conf, m: &[u32]) -> bool
