@@ -108,7 +108,7 @@ module _ (M : Machine) (z : Sound M) where
 
   by-call : (c : Call) → (Renews c (effectOf c M .answer) → ⊥) → Allowed c M → Acts M c (effectOf c M)
   unfolding effectOf startEffect gossipEffect tidyEffect crashEffect
-  by-call (setUp k page) n h = absurd (n refl)
+  by-call (setUp k page) n h = absurd (n (tt, refl))
   by-call (startRead c) n h =
       reads c (among (M .conf .clients) c (not-not (between 1 (M .conf .clients) c) (h .argument))) (resting c (h .idle))
   by-call (startWrite c page) n h =

@@ -11,7 +11,8 @@ use Rattle.sets.specs.declared.Tag.{Tag}
 use Rattle.sets.specs.declared.Order.{Order}
 use Rattle.sets.specs.declared.Order.the-variants.{Lower, Same, Greater}
 use Rattle.sets.specs.Tags.{tag, against}
-use Rattle.sets.specs.Sets.{_∈_, size, join, with}
+use Rattle.sets.specs.Sets.{size, join, with}
+use Rattle.sets.specs.Inner.{_∈_}
 use Rattle.sets.proofs.Laws.{none-in, with-in, with-lt, size-none}
 use Rattle.sets.proofs.Tests.{if-ind}
 use Rattle.sets.proofs.TagOrder.{_≼_, _≺_, ≺-≼, ≺-irrefl, first-least, view as compare, is-lower, is-same, is-greater}

@@ -6,7 +6,8 @@ use native.Mathlib.Nat.{le-trans}
 use lib.Dec.{T, eqb, eqb→eq}
 use Rattle.sets.specs.declared.Tag.{Tag}
 use Rattle.sets.specs.Tags.{first}
-use Rattle.sets.specs.Sets.{_∈_, join}
+use Rattle.sets.specs.Sets.{join}
+use Rattle.sets.specs.Inner.{_∈_}
 use Rattle.sets.proofs.Laws.{join-in, only-in, size-join-left}
 use Rattle.sets.proofs.Tests.{or-elim, or-left, or-right, if-ind}
 use Rattle.sets.proofs.TagOrder.{_≼_}

@@ -8,8 +8,9 @@ use Rattle.sets.specs.Tags.{against}
 use Rattle.tables.specs.declared.Conf.{Conf}
 use Rattle.tables.specs.Kinds.{senderOf, receiverOf}
 use Rattle.tables.specs.Tables.{Page, noPage, noClient, noDirectory, noEntry, noReplica, noMessage}
-use Rattle.tables.specs.Rows.{rowsWords, rowsOf, joined}
-use Rattle.tables.specs.Words.{confWords, clientWords, directoryWords, downWords, entryWords, replicaWords, messageWords, confOf, clientOf, directoryOf, entryOf, messageOf, entriesOf, replicasOf, blocks, words, machineOf}
+use Rattle.tables.specs.Rows.{rowsWords, joined}
+use Rattle.tables.specs.Machines.{rowsOf, confOf, clientOf, directoryOf, entryOf, messageOf, entriesOf, replicasOf, machineOf}
+use Rattle.tables.specs.Words.{confWords, clientWords, directoryWords, downWords, entryWords, replicaWords, messageWords, blocks, words}
 use Rattle.inspect.specs.Good.{goodNumbers, zeros, goodClient, goodDirectory, goodEntry, tagsOnce, goodReplica, goodMessage, clientRow, directoryRow, replicaRow, slotRow, goodMachine, good}
 use Rattle.machine.specs.Buffers.{call}
 use Rattle.rules.specs.Posts.{messagesOf}
@@ -21,8 +22,7 @@ use Rattle.machine.specs.Calls.{Call, setUp, startRead, startWrite, deliver, st
 use Rattle.machine.specs.Deliver.{clientEffect, directoryEffect, replicaEffect, deliverEffect}
 use Rattle.machine.specs.Refusals.{refusal}
 use Rattle.machine.specs.Steps.{newMachine, effectOf, step}
-use Rattle.order.specs.Run.{read-begins, write-begins, read-ends, write-ends, nothing}
-use Rattle.order.specs.Method.{events}
+use Rattle.order.specs.Run.{read-begins, write-begins, read-ends, write-ends, nothing, events}
 use Rattle.history.specs.Show.{eventOf, onBuffer}
 
 -- a page is its first word, and zeros

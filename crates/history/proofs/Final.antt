@@ -10,7 +10,8 @@ use lib.ListN.{length, drop}
 use Rattle.sets.proofs.Tests.{T-true, not-not}
 use Rattle.tables.specs.declared.Conf.{Conf}
 use Rattle.tables.specs.Tables.{Page}
-use Rattle.tables.specs.Words.{words, machineOf}
+use Rattle.tables.specs.Words.{words}
+use Rattle.tables.specs.Machines.{machineOf}
 use Rattle.tables.proofs.Whole.{Paged}
 use Rattle.tables.proofs.Round.{machine-back}
 use Rattle.inspect.specs.Good.{goodNumbers}
@@ -20,13 +21,13 @@ use Rattle.machine.specs.Buffers.{wrongPage, Outcomes, call}
 use Rattle.runs.proofs.Ways.{StepWay, refuses, accepts, step-way, allowed, CallWay, sized, bad, steps, call-way, is-paged}
 use Rattle.runs.proofs.New.{new-sound}
 use Rattle.runs.proofs.Reached.{step-sound}
-use Rattle.order.specs.Run.{_∈_, Event, nothing, reading, Op, ops, Proper, Finished, EndedBefore, last-page, OneLine}
-use Rattle.order.specs.Method.{events, AllMeant, Fresh, SeenAs}
+use Rattle.order.specs.Run.{_∈_, Event, nothing, reading, Op, ops, Proper, Finished, EndedBefore, last-page, OneLine, events, AllMeant}
+use Rattle.order.specs.Method.{Fresh, SeenAs}
 use Rattle.order.proofs.Atomic.{atomic, atomic-seen}
 use Rattle.order.proofs.Hours.{hours}
-use Rattle.history.specs.Show.{eventOf, Renews, onMachine, onBuffer}
+use Rattle.history.specs.Show.{eventOf, Renews, onBuffer}
 use Rattle.history.proofs.Ways.{refused-shows}
-use Rattle.history.proofs.Walk.{Good, layered, keeps}
+use Rattle.history.proofs.Walk.{Good, layered, onMachine, keeps}
 use Rattle.history.proofs.Fresh.{fresh}
 
 -- ---- over steps

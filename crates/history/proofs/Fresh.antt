@@ -6,7 +6,7 @@ use Prim.Native.Nat.{ℕ, zero, suc, _+_, _≤_, _<_}
 use native.Mathlib.Omega.{arith}
 use lib.Dec.{T, leb, le→leb, nleb→lt}
 use lib.ListN.{getD}
-use Rattle.sets.specs.Choice.{numbers}
+use Rattle.sets.specs.Plain.{numbers}
 use Rattle.sets.specs.declared.Tag.{Tag}
 use Rattle.sets.specs.Tags.{first}
 use Rattle.sets.specs.Sets.{size, all}
@@ -26,7 +26,7 @@ use Rattle.rules.proofs.Covers.{Covers, held}
 use Rattle.machine.specs.Steps.{firstDirectory, firstReplica, newMachine}
 use Rattle.runs.proofs.New.{new-sound}
 use Rattle.order.specs.Method.{idle, Fresh}
-use Rattle.history.proofs.Rows.{all-from}
+use Rattle.machine.proofs.Places.{all-from}
 use Rattle.history.proofs.Invariant.{CoversAt, Told, Known, ReplicaOk, Invariant}
 use Rattle.history.proofs.Pages.{Within}
 use Rattle.history.proofs.Ranks.{standOf}

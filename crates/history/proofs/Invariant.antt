@@ -5,7 +5,8 @@ use Prim.Native.Nat.{ℕ, _+_, _^_, _≤_, _<_}
 use lib.Dec.{T, eqb}
 use Rattle.sets.specs.declared.Tag.{Tag}
 use Rattle.sets.specs.Tags.{first}
-use Rattle.sets.specs.Sets.{_∈_, size}
+use Rattle.sets.specs.Sets.{size}
+use Rattle.sets.specs.Inner.{_∈_}
 use Rattle.sets.proofs.TagOrder.{_≼_}
 use Rattle.tables.specs.declared.Client.{Client}
 use Rattle.tables.specs.declared.Message.{Message}

@@ -6,7 +6,7 @@ use mathlib.Core.Logic.{⊎-elim}
 use Prim.Native.Nat.{ℕ, _≤_}
 use native.Mathlib.Nat.{le-refl, le-trans}
 use lib.Dec.{T, eqb, eqb→eq}
-use Rattle.sets.specs.Choice.{oneOf}
+use Rattle.sets.specs.Plain.{oneOf}
 use Rattle.sets.specs.declared.Tag.{Tag}
 use Rattle.sets.proofs.Tests.{or-elim}
 use Rattle.sets.proofs.TagOrder.{_≼_, ≼-refl, ≼-trans}

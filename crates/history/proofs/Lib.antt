@@ -1,4 +1,4 @@
--- The layered machine keeps to the method, from its invariant up.
+-- The layered machine keeps to the method, from its invariant up. Final has the theorems; the rest may change freely.
 pub mod Rows
 pub mod Shape
 pub mod Acts

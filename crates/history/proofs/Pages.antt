@@ -3,8 +3,8 @@ use mathlib.Core.Path.{_≡_, refl, sym, ap, subst}
 use mathlib.Core.Bool.{not}
 use mathlib.Core.List.{List, [], _∷_}
 use Prim.Native.Nat.{ℕ}
-use lib.Dec.{T, eqb, eqb→eq, T-not, not-T}
-use Rattle.sets.specs.Choice.{oneOf}
+use lib.Dec.{T, eqb, eqb→eq}
+use Rattle.sets.specs.Plain.{oneOf}
 use Rattle.sets.specs.declared.Tag.{Tag}
 use Rattle.sets.proofs.Tests.{if-ind}
 use Rattle.tables.specs.declared.Conf.{Conf}
@@ -16,8 +16,8 @@ use Rattle.tables.specs.declared.Party.{Party}
 use Rattle.tables.specs.declared.Party.the-variants.{Nobody, AClient, ADirectory, AReplica}
 use Rattle.tables.specs.Kinds.{carriesPage}
 use Rattle.tables.specs.Rows.{some?}
-use Rattle.tables.specs.Tables.{Page, Replica, Machine, noEntry, noReplica, noMessage, noClient, clientAt, directoryAt, replicaAt, slotAt, withSlots, isFree, isSecured, hasTag}
-use Rattle.tables.proofs.All.{All, none, cons, all-map, all-row, all-withRow, all-replicate}
+use Rattle.tables.specs.Tables.{Page, Replica, Machine, noEntry, noReplica, noMessage, noClient, clientAt, directoryAt, replicaAt, slotAt, withSlots, isFree, isSecured}
+use Rattle.tables.proofs.All.{All, all-map, all-row, all-withRow, all-replicate}
 use Rattle.rules.specs.declared.Post.{Post}
 use Rattle.rules.specs.declared.Outcome.{Outcome}
 use Rattle.rules.specs.declared.Outcome.the-variants.{Waiting, Next, ReadEnded, WriteEnded, Spent, Stale}
@@ -25,9 +25,8 @@ use Rattle.rules.specs.Directory.{directoryPost}
 use Rattle.rules.specs.Replica.{there, entryWith, highest, read, replicaAfter, replicaPost, gossipPost}
 use Rattle.rules.specs.Client.{heard, request, secures, clientPost}
 use Rattle.rules.proofs.Heard.{heard-keeps}
-use Rattle.rules.proofs.Highest.{highest-of}
-use Rattle.rules.proofs.Changes.{has-tag, tag-has, free-not-secured}
-use Rattle.rules.proofs.Covers.{entryWith-has}
+use Rattle.rules.proofs.Changes.{tag-has}
+use Rattle.rules.proofs.Covers.{entryWith-has, highest-there}
 use Rattle.rules.proofs.Every.{all-after, all-tidied, all-entryWith}
 use Rattle.machine.specs.Effects.{Change, nothing, client, directory, replica, Effect, changed, applied}
 use Rattle.machine.specs.Calls.{Call, downed}
@@ -38,19 +37,6 @@ use Rattle.history.proofs.Acts.{Acts, reads, writes, drops, directs, st
 use Rattle.history.proofs.Later.{one-of, settled}
 use Rattle.history.proofs.Keeping.{unsent}
 use Rattle.history.proofs.Clients.{heard-settled}
-
--- the highest secured tag is there
-highest-there : (es : List Entry) → T (some? isSecured es) → T (there (highest es) es)
-highest-there es = highest-of (λ (u : Tag). T (there u es)) (all-there es)
-  where
-    all-there : (es : List Entry) → All (λ e. T (isSecured e) → T (there (e .tag) es)) es
-    all-there [] = none
-    all-there (e ∷ es) =
-        cons
-        (λ s.
-        if-ind T (hasTag (e .tag) e) (λ _. tt)
-        (λ n. absurd (T-not (hasTag (e .tag) e) n (has-tag (e .tag) e (not-T (isFree e) (λ f. free-not-secured e f s)) refl))))
-        (all-map (λ a f s. if-ind T (hasTag (a .tag) e) (λ _. tt) (λ _. f s)) (all-there es))
 
 module _ (H : Tag → Page → Type 0) where
   -- an entry in use, a message with a page, a client in phase 5 or 6

@@ -6,7 +6,7 @@ use Prim.Native.Nat.{ℕ, _+_, _*_, _/_, _%_, _≤_, _<_}
 use native.Mathlib.Omega.{arith}
 use native.Mathlib.Decide.{decLt}
 use lib.Dec.{T, eqb}
-use Rattle.sets.specs.Choice.{if_then_else_, oneOf}
+use Rattle.sets.specs.Plain.{if_then_else_, oneOf}
 use Rattle.sets.specs.declared.Tag.{Tag}
 use Rattle.sets.specs.Tags.{tag}
 use Rattle.sets.proofs.TagOrder.{_≼_, _≺_}

@@ -1,23 +1,21 @@
 -- A row after another row is replaced, the clients and the slots after an effect: what holds of each.
 use mathlib.Core.Path.{_≡_, refl, ap, subst}
-use mathlib.Core.List.{List, [], _∷_, map, List·Memᴰ, List·Memᴰ·head, List·Memᴰ·tail}
+use mathlib.Core.List.{List, [], _∷_}
 use Prim.Native.Nat.{ℕ, zero, suc, _≤_}
 use native.Mathlib.Omega.{arith}
 use lib.ListN.{length, getD, set}
 use lib.Seq.{getD-set-same}
-use Rattle.sets.specs.Sets.{_∈_, members}
-use Rattle.sets.proofs.Members.{members-in}
+use Rattle.sets.specs.Inner.{_∈_}
 use Rattle.tables.specs.declared.Client.{Client}
 use Rattle.tables.specs.declared.Message.{Message}
 use Rattle.tables.specs.declared.Party.{Party}
 use Rattle.tables.specs.declared.Party.the-variants.{Nobody, AClient, ADirectory, AReplica}
 use Rattle.tables.specs.Rows.{row, withRow}
-use Rattle.tables.specs.Tables.{Machine, noClient, noMessage, clientAt, isEmpty}
-use Rattle.tables.proofs.All.{All, none, cons, all-withRow}
-use Rattle.tables.proofs.Lists.{all-putFirst}
+use Rattle.tables.specs.Tables.{Machine, noClient, noMessage, clientAt}
+use Rattle.tables.proofs.All.{All}
 use Rattle.rules.specs.declared.Post.{Post}
-use Rattle.rules.specs.Posts.{toReceiver, messagesOf}
-use Rattle.machine.specs.Slots.{placed, freed}
+use Rattle.rules.specs.Posts.{toReceiver}
+use Rattle.machine.proofs.Places.{all-sent, all-placed, all-freed}
 use Rattle.machine.specs.Calls.{downClient, downed}
 use Rattle.machine.specs.Effects.{Change, nothing, client, directory, replica, Effect, changed, applied}
 
@@ -69,22 +67,6 @@ each-client Q M (replica a w) h g c = g c
 abbrev pub Sent : (Message → Type 0) → Post → Type 0
 Sent P y = (p : ℕ) → p ∈ y .to → P (toReceiver (y .message) p)
 
-pub all-from : {A B : Type 0} {P : B → Type 0} (f : A → B) (xs : List A) → ((a : A) → List·Memᴰ a xs → P (f a)) → All P (map f xs)
-all-from f [] h = none
-all-from f (x ∷ xs) h = cons (h x (List·Memᴰ·head refl)) (all-from f xs (λ a m. h a (List·Memᴰ·tail m)))
-
 module _ (P : Message → Type 0) where
-  all-sent : (y : Post) → Sent P y → All P (messagesOf y)
-  unfolding messagesOf
-  all-sent y h = all-from (toReceiver (y .message)) (members 16 (y .to)) (λ p m. h p (members-in 16 (y .to) p m .2))
-
-  all-placed : {xs ss : List Message} → All P xs → All P ss → All P (placed xs ss)
-  all-placed none hs = hs
-  all-placed (cons {x} h rest) hs = all-placed rest (all-putFirst isEmpty x h hs)
-
-  all-freed : {ss : List Message} (emptied : List ℕ) → P noMessage → All P ss → All P (freed emptied ss)
-  all-freed [] q hs = hs
-  all-freed (s ∷ emptied) q hs = all-withRow s noMessage q (all-freed emptied q hs)
-
   pub all-slots : (M : Machine) (e : Effect) → P noMessage → Sent P (e .post) → All P (M .slots) → All P (applied e M .slots)
-  all-slots M e q h hs = all-placed (all-sent (e .post) h) (all-freed (e .emptied) q hs)
+  all-slots M e q h hs = all-placed P (all-sent P (e .post) h) (all-freed P (e .emptied) q hs)

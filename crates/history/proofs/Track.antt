@@ -6,10 +6,10 @@ use mathlib.Core.List.{List, [], _∷_}
 use Prim.Native.Nat.{ℕ, _+_, _^_, _≤_, _<_}
 use native.Mathlib.Omega.{arith}
 use lib.Dec.{T, eqb, eqb→eq}
-use Rattle.sets.specs.Choice.{oneOf}
+use Rattle.sets.specs.Plain.{oneOf}
 use Rattle.sets.specs.declared.Tag.{Tag}
 use Rattle.sets.specs.Tags.{first}
-use Rattle.sets.specs.Sets.{_∈_}
+use Rattle.sets.specs.Inner.{_∈_}
 use Rattle.sets.proofs.Laws.{none-in, with-in}
 use Rattle.sets.proofs.Tests.{or-elim, if-ind}
 use Rattle.sets.proofs.TagOrder.{_≼_, _≺_, ≼-trans}

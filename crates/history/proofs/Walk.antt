@@ -1,11 +1,11 @@
 -- THE LAYERED MACHINE KEEPS TO THE METHOD: one walk through what a call may do gives each way its case of `Does`.
 use mathlib.Core.Path.{_≡_, refl, sym, ap, subst, _∙_}
-use mathlib.Core.Bool.{true}
+use mathlib.Core.Bool.{true, not}
 use mathlib.Core.List.{[], _∷_}
 use Prim.Native.Nat.{ℕ, _+_, _%_, _≤_}
 use native.Mathlib.Omega.{arith}
 use lib.Dec.{T}
-use Rattle.sets.specs.Choice.{oneOf}
+use Rattle.sets.specs.Plain.{oneOf}
 use Rattle.sets.specs.declared.Tag.{Tag}
 use Rattle.sets.specs.Tags.{tag}
 use Rattle.sets.proofs.TagOrder.{_≼_, _≺_, ≼-trans}
@@ -24,12 +24,13 @@ use Rattle.rules.proofs.Views.{Completes, View, v-stale, v-waits, v-1, v-2, v-3
 use Rattle.machine.specs.Effects.{Effect, applied}
 use Rattle.machine.specs.Calls.{Call, deliver}
 use Rattle.machine.specs.Steps.{step}
+use Rattle.machine.specs.Buffers.{wrongPage}
 use Rattle.runs.proofs.Sound.{Sound}
 use Rattle.runs.proofs.Rows.{numbers-of}
 use Rattle.runs.proofs.Reached.{step-sound}
-use Rattle.order.specs.Run.{Event, nothing}
+use Rattle.order.specs.Run.{Event, nothing, Calls}
 use Rattle.order.specs.Method.{writes, Method, Others, Does, quietly, readBegins, writeBegins, chooses, readEnds, writeEnds, spends, never-gives-up, KeepsTo}
-use Rattle.history.specs.Show.{eventOf, Renews, onMachine}
+use Rattle.history.specs.Show.{eventOf, Renews}
 use Rattle.history.proofs.Rows.{OfClient, of-map, of-downed, each-client}
 use Rattle.history.proofs.Shape.{client-in, client-set}
 use Rattle.history.proofs.Acts.{Comes, Acts, reads as startsRead, writes as startsWrite, drops, directs, stores, hears, gossips, tidies, crashes, reports, answered}
@@ -245,6 +246,15 @@ module _ (M : Machine) (c : Call) (G : Good M) (n : Renews c (step c M .answer) 
       go : {N : Machine} {v : Event} → Way M c N v → Does layered M N v
       go stays = quietly (λ c. (refl, λ t h. h)) (λ H v. v)
       go (goes k) = acts-does M G k
+
+-- the calls of a machine, each with a page of the right size and no accepted set-up
+abbrev pub onMachine : Calls Machine Call
+onMachine =
+    record {
+      after = λ M c. step c M .machine;
+      shows = λ M c. eventOf c (step c M .answer) (step c M .page);
+      Meant = λ M c. T (not (wrongPage c)) × (Renews c (step c M .answer) → ⊥);
+    }
 
 pub keeps : KeepsTo layered onMachine
 keeps =

@@ -3,6 +3,7 @@ use mathlib.Core.Path.{_≡_, refl, sym, subst}
 use Prim.Native.Nat.{ℕ, _≤_}
 use native.Mathlib.Omega.{arith}
 use lib.Dec.{eqb, eqb→eq}
+use Rattle.sets.specs.Plain.{if_then_else_}
 use Rattle.sets.proofs.Tests.{if-ind}
 use Rattle.tables.specs.Tables.{Page, Machine}
 use Rattle.rules.specs.declared.Answer.{Answer}
@@ -16,20 +17,17 @@ use Rattle.order.specs.Run.{Event, gives-up, nothing}
 use Rattle.history.specs.Show.{eventOf, Renews}
 use Rattle.history.proofs.Acts.{Acts, acts}
 
+-- 6 and more are none of the codes that show something
+not-code : (n : ℕ) (a : Answer) (x y : Event) → n ≤ 5 → 6 ≤ a .code → y ≡ nothing → (if eqb (a .code) n then x else y) ≡ nothing
+not-code n a x y l h e = if-ind (λ (e : Event). e ≡ nothing) (eqb (a .code) n) (λ z. absurd (omega (arith, eqb→eq (a .code) n z))) (λ _. e)
+
 -- a refusal shows nothing
 pub refused-shows : (c : Call) (a : Answer) (p : Page) → 6 ≤ a .code → eventOf c a p ≡ nothing
 unfolding eventOf
 refused-shows (setUp k page) a p h = refl
-refused-shows (startRead c) a p h = if-ind (λ (e : Event). e ≡ nothing) (eqb (a .code) 0) (λ z. absurd (omega (arith, eqb→eq (a .code) 0 z))) (λ _. refl)
-refused-shows (startWrite c page) a p h =
-    if-ind (λ (e : Event). e ≡ nothing) (eqb (a .code) 0) (λ z. absurd (omega (arith, eqb→eq (a .code) 0 z))) (λ _. refl)
-refused-shows (deliver s page) a p h =
-    if-ind P (eqb (a .code) 1) (λ z. absurd (omega (arith, eqb→eq (a .code) 1 z)))
-    (λ _. if-ind P (eqb (a .code) 2) (λ z. absurd (omega (arith, eqb→eq (a .code) 2 z)))
-    (λ _. if-ind P (eqb (a .code) 3) (λ z. absurd (omega (arith, eqb→eq (a .code) 3 z))) (λ _. refl)))
-  where
-    P : Event → Type 0
-    P e = e ≡ nothing
+refused-shows (startRead c) a p h = not-code _ a _ _ (omega arith) h refl
+refused-shows (startWrite c page) a p h = not-code _ a _ _ (omega arith) h refl
+refused-shows (deliver s page) a p h = not-code _ a _ _ (omega arith) h (not-code _ a _ _ (omega arith) h (not-code _ a _ _ (omega arith) h refl))
 refused-shows (gossip from to) a p h = refl
 refused-shows (tidy r) a p h = refl
 refused-shows (crash kind id) a p h = refl
@@ -70,7 +68,7 @@ pub data Way (M : Machine) (c : Call) : Machine → Event → Type 0 where
 module _ (M : Machine) (z : Sound M) where
   accepted-goes : (c : Call) → (Renews c (effectOf c M .answer) → ⊥) → codeOf c M ≡ 0 → Way M c (accepted c M (effectOf c M)) (eventOf c (effectOf c M .answer) (effectOf c M .page))
   unfolding effectOf
-  accepted-goes (setUp k page) n h = absurd (n refl)
+  accepted-goes (setUp k page) n h = absurd (n (tt, refl))
   accepted-goes (startRead c) n h = goes (acts M z (startRead c) n h)
   accepted-goes (startWrite c page) n h = goes (acts M z (startWrite c page) n h)
   accepted-goes (deliver s page) n h = goes (acts M z (deliver s page) n h)

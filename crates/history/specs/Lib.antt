@@ -1,2 +1,2 @@
--- What a call shows its caller. The theorem stands in proofs/.
+-- What a call shows its caller; a reader must believe it. The theorem stands in proofs/Final.
 pub mod Show

@@ -1,17 +1,10 @@
--- What a call shows its caller, by its answer; and the calls of a machine and of a lent buffer, as `order` reads them.
-use mathlib.Core.Path.{_≡_}
-use mathlib.Core.Bool.{not}
-use mathlib.Core.List.{List}
-use Prim.Native.Nat.{ℕ}
-use lib.Dec.{T, eqb}
-use Rattle.sets.specs.Choice.{if_then_else_}
-use Rattle.tables.specs.Tables.{Page, Machine}
+-- What a call shows its caller, by its answer; and the calls on a lent buffer, as `order` reads them.
+use Rattle.sets.specs.Plain.{not, _≡_, ℕ, T, eqb, List, if_then_else_}
+use Rattle.tables.specs.Tables.{Page}
 use Rattle.rules.specs.declared.Answer.{Answer}
 use Rattle.machine.specs.Calls.{Call, setUp, startRead, startWrite, deliver, gossip, tidy, crash, report}
-use Rattle.machine.specs.Steps.{step}
-use Rattle.machine.specs.Buffers.{wrongPage, call}
-use Rattle.order.specs.Run.{Event, read-begins, write-begins, read-ends, write-ends, write-spent, nothing}
-use Rattle.order.specs.Method.{Calls}
+use Rattle.machine.specs.Buffers.{asksMachine, call}
+use Rattle.order.specs.Run.{Event, read-begins, write-begins, read-ends, write-ends, write-spent, nothing, Calls}
 
 -- 1 READ ENDED with the page filled, 2 WRITE ENDED, 3 SPENT
 abbrev pub ending : Answer → Page → Event
@@ -34,22 +27,7 @@ eventOf report a p = nothing
 
 -- the call is an accepted set-up: it begins another run
 abbrev pub Renews : Call → Answer → Type 0
-Renews (setUp k page) a = a .code ≡ 0
-Renews (startRead c) a = ⊥
-Renews (startWrite c page) a = ⊥
-Renews (deliver s page) a = ⊥
-Renews (gossip from to) a = ⊥
-Renews (tidy r) a = ⊥
-Renews (crash kind id) a = ⊥
-Renews report a = ⊥
-
-abbrev pub onMachine : Calls Machine Call
-onMachine =
-    record {
-      after = λ M c. step c M .machine;
-      shows = λ M c. eventOf c (step c M .answer) (step c M .page);
-      Meant = λ M c. T (not (wrongPage c)) × (Renews c (step c M .answer) → ⊥);
-    }
+Renews c a = T (not (asksMachine c)) × (a .code ≡ 0)
 
 abbrev pub onBuffer : Calls (List ℕ) Call
 onBuffer =

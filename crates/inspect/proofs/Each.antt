@@ -2,15 +2,19 @@
 use mathlib.Core.Bool.{Bool, true, false, _&&_, _||_, and-true, or-false, and-assoc, or-assoc}
 use mathlib.Core.List.{List, [], _∷_}
 use mathlib.Core.Path.{_≡_, refl, sym, ap, _∙_}
-use Prim.Native.Nat.{ℕ, zero, suc, _+_, _-_, _≤_, _<_, zero-le, suc-le-suc}
+use Prim.Native.Nat.{ℕ, zero, suc, _+_, _*_, _-_, _≤_, _<_, zero-le, suc-le-suc}
 use native.Mathlib.Nat.{add-comm, add-zero, add-suc, suc-add, not-suc-le-zero, le-of-suc-le-suc}
 use native.Mathlib.Numerals.{add-one}
 use native.Mathlib.Omega.{arith}
 use lib.ListN.{length, getD, set, take, drop, drop-of-length-le}
 use lib.Seq.{drop-cons}
-use Rattle.sets.specs.Choice.{if_then_else_}
+use Rattle.sets.specs.Plain.{if_then_else_}
 use Rattle.tables.specs.Rows.{row, withRow, some?}
+use Rattle.tables.specs.declared.Entry.{Entry}
+use Rattle.tables.specs.Tables.{noEntry}
+use Rattle.tables.specs.Machines.{entryOf, entriesOf}
 use Rattle.tables.proofs.Parts.{cut-is}
+use Rattle.tables.proofs.Read.{entry-at, entry-cut}
 use Rattle.inspect.specs.Good.{eachRow}
 use Rattle.inspect.proofs.Tests.{and-l, and-r}
 
@@ -81,3 +85,8 @@ module _ {A : Type 0} (test : ℕ → A → Bool) where
   pub row-replaced : (rows : List A) (p : ℕ) (x : A) → test p x ≡ true → eachRow test 1 rows ≡ true → eachRow test 1 (withRow rows p x) ≡ true
   row-replaced rows zero x t g = g
   row-replaced rows (suc i) x t g = each-set 1 rows i x (rw (add-comm 1 i, add-one) t) g
+
+-- ---- an entry of a replica, read from its own words
+
+pub this-entry : (l : List ℕ) (j : ℕ) (e : Entry) → j < 12 → e ≡ entryOf (take (j * 20 + 20 - j * 20) (drop (j * 20) l)) → getD (entriesOf l) j noEntry ≡ e
+this-entry l j e low at = entry-at l j low ∙ sym (at ∙ ap entryOf (cut-is l (j * 20) 20) ∙ entry-cut (drop (j * 20) l))

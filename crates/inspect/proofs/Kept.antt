@@ -8,7 +8,7 @@ use Rattle.tables.specs.declared.Message.{Message}
 use Rattle.tables.specs.Tables.{Replica, Machine, withClient, withDirectory, withReplica, withSlot}
 use Rattle.inspect.specs.Good.{clientRow, directoryRow, replicaRow, slotRow, goodMachine}
 use Rattle.inspect.proofs.Each.{row-replaced}
-use Rattle.inspect.proofs.Facts.{clients-pass, directories-pass, replicas-pass, slots-pass}
+use Rattle.inspect.proofs.Machines.{clients-pass, directories-pass, replicas-pass, slots-pass}
 
 module _ (M : Machine) (g : goodMachine M ≡ true) where
   pub good-client : (c : ℕ) (x : Client) → clientRow (M .conf) c x ≡ true → goodMachine (withClient M c x) ≡ true

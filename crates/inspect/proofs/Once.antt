@@ -1,16 +1,15 @@
 -- No tag stands in two entries: said entry by entry, and of each pair of entries.
 use mathlib.Core.Bool.{Bool, true, false, not, _&&_, _||_, and-false, and-true, false≢true}
-use mathlib.Core.List.{List, [], _∷_, _++_}
-use mathlib.Core.Path.{_≡_, refl, sym, _∙_}
+use mathlib.Core.List.{List, [], _∷_, _++_, append-nil, append-assoc}
+use mathlib.Core.Path.{_≡_, refl, sym, ap, _∙_}
 use Prim.Native.Nat.{ℕ, zero, suc, _+_, _≤_, _<_, zero-le, suc-le-suc}
 use native.Mathlib.Nat.{not-suc-le-zero, le-of-suc-le-suc}
 use native.Mathlib.Numerals.{add-one}
-use native.Mathlib.Omega.{arith}
 use borrow.Author.Tests.{eq-eqb, ne-eqb, eqb-true, eqb-false, not-true}
 use lib.Dec.{eqb}
-use lib.ListN.{length, getD, take}
+use lib.ListN.{length, getD, take, drop, take-append-drop}
 use lib.Seq.{take-suc, take-all}
-use Rattle.sets.specs.Choice.{if_then_else_}
+use Rattle.sets.specs.Plain.{if_then_else_}
 use Rattle.sets.specs.Tags.{same}
 use Rattle.sets.specs.declared.Tag.{Tag}
 use Rattle.tables.specs.declared.Entry.{Entry}
@@ -34,7 +33,7 @@ passes-no : (a b : Bool) → (if a then true else b) ≡ false → (a ≡ false)
 passes-no true b e = absurd (false≢true (sym e))
 passes-no false b e = (refl, e)
 
-some-snoc : {A : Type 0} (p : A → Bool) (xs : List A) (x : A) → some? p (xs ++ x ∷ []) ≡ some? p xs || p x
+pub some-snoc : {A : Type 0} (p : A → Bool) (xs : List A) (x : A) → some? p (xs ++ x ∷ []) ≡ some? p xs || p x
 some-snoc p [] x = go (p x)
   where
     go : (b : Bool) → (if b then true else false) ≡ b
@@ -65,14 +64,25 @@ once-snoc (x ∷ xs) e =
     rw (tagsOnce, some-snoc (hasTag (x .tag)) xs e, once-snoc xs e, same-sym (x .tag) (e .tag))
     (apart (isFree x) (isFree e) (same (e .tag) (x .tag)) (some? (hasTag (x .tag)) xs) (some? (hasTag (e .tag)) xs) (tagsOnce xs))
 
--- the first j entries have their tags once
-module _ (es : List Entry) (n : ℕ) (many : length es ≡ n) (j : ℕ) (ok : Bool) (passed : ok ≡ tagsOnce (take j es)) where
-  pub once-more : (x : Bool) → j < n → x ≡ freshAt es j → ok && x ≡ tagsOnce (take (j + 1) es)
-  unfolding freshAt
-  once-more x h e = rw (passed, e, add-one, take-suc es j noEntry (omega arith)) (sym (once-snoc (take j es) (getD es j noEntry)))
+-- a tag that stands twice stands twice in a longer list
+twice-stays : (xs ys : List Entry) → tagsOnce xs ≡ false → tagsOnce (xs ++ ys) ≡ false
+twice-stays xs [] h = rw append-nil h
+twice-stays xs (y ∷ ys) h = ap tagsOnce (sym (append-assoc xs (y ∷ []) ys)) ∙ twice-stays (xs ++ y ∷ []) ys (once-snoc xs y ∙ rw h)
 
-  pub once-end : n ≤ j → ok ≡ tagsOnce es
-  once-end h = passed ∙ rw (take-all j es (omega arith))
+-- the first j entries have their tags once
+module _ (es : List Entry) (j : ℕ) (passed : tagsOnce (take j es) ≡ true) where
+  turn : j < length es → tagsOnce (take (j + 1) es) ≡ freshAt es j
+  unfolding freshAt
+  turn h = rw (add-one, take-suc es j noEntry h) (once-snoc (take j es) (getD es j noEntry) ∙ rw passed)
+
+  pub once-more : j < length es → freshAt es j ≡ true → tagsOnce (take (j + 1) es) ≡ true
+  once-more h e = turn h ∙ e
+
+  pub once-out : j < length es → freshAt es j ≡ false → tagsOnce es ≡ false
+  once-out h e = ap tagsOnce (sym (take-append-drop (j + 1) es)) ∙ twice-stays (take (j + 1) es) (drop (j + 1) es) (turn h ∙ e)
+
+  pub once-end : length es ≤ j → tagsOnce es ≡ true
+  once-end h = rw (take-all j es h) at passed
 
 -- ---- by pairs: of two entries in use, the later has not the tag of the earlier
 

@@ -68,3 +68,10 @@ zeros-parts n k l wide = sym (zeros-append (take n l) (take k (drop n l))) ∙ a
 -- a row of n words is zero where the words written from it are
 pub own-words : (n : ℕ) (l w : List ℕ) → length l ≡ n → (n ≤ length l → w ≡ take n l) → zeros l ≡ zeros w
 own-words n l w wide h = rw (h (omega arith), take-all n l (omega arith))
+
+-- the two ways out of `x && y`
+pub and-stops : (x y : Bool) → x ≡ false → x ≡ x && y
+and-stops x y h = rw h
+
+pub and-goes : (x y : Bool) → x ≡ true → y ≡ x && y
+and-goes x y h = rw h

@@ -1,10 +1,6 @@
 -- "A bad machine is one where .. Nothing else is bad": `good` is true where the machine is not bad, and false where it is.
 -- Each line of a conjunction is one of the paper's conditions.
-use mathlib.Core.Bool.{Bool, true, not, _&&_, _||_}
-use mathlib.Core.List.{List, [], _∷_}
-use Prim.Native.Nat.{ℕ, suc, _+_, _*_, _^_}
-use lib.Dec.{leb, ltb, eqb}
-use Rattle.sets.specs.Choice.{if_then_else_}
+use Rattle.sets.specs.Plain.{Bool, true, not, _&&_, _||_, ℕ, suc, _+_, _*_, _^_, leb, ltb, eqb, List, [], _∷_, if_then_else_}
 use Rattle.sets.specs.declared.Tag.{Tag}
 use Rattle.tables.specs.declared.Conf.{Conf}
 use Rattle.tables.specs.declared.Party.{Party}
@@ -14,7 +10,8 @@ use Rattle.tables.specs.declared.Entry.{Entry}
 use Rattle.tables.specs.declared.Message.{Message}
 use Rattle.tables.specs.Rows.{some?}
 use Rattle.tables.specs.Tables.{Replica, Machine, isFree, hasTag, isSecured, isEmpty}
-use Rattle.tables.specs.Words.{clientWords, directoryWords, entryWords, replicaWords, messageWords, machineOf}
+use Rattle.tables.specs.Words.{clientWords, directoryWords, entryWords, replicaWords, messageWords}
+use Rattle.tables.specs.Machines.{machineOf}
 use Rattle.tables.specs.Kinds.{senderOf, receiverOf, manyOf, carriesSet, carriesTag, carriesPage, carriesNumber}
 use Rattle.tables.specs.Phases.{isIdle, usesTag, asksDirectories, asksReplicas, usesReplicaSet, usesPage, roundsLeft}
 

@@ -1,3 +1,3 @@
--- Which machines are bad. The laws stand in proofs/.
+-- Which machines are bad: Good, which a reader must believe. Inner may change with the code.
 pub mod Good
 pub mod Inner

@@ -2,96 +2,104 @@
 ghost use mathlib.Core.Path.{_≡_};
 ghost use Prim.Native.Nat.{_≤_, _<_};
 ghost use lib.ListN.{length, take};
-ghost use Rattle.sets.specs.Choice.{if_then_else_};
 ghost use Rattle.tables.specs.Rows.{some?};
 ghost use Rattle.tables.specs.Tables.{isSecured, hasTag};
-ghost use Rattle.tables.specs.Words.{entryOf, entriesOf};
-ghost use Rattle.inspect.specs.Good.{eachRow, goodEntry, tagsOnce};
-ghost use Rattle.inspect.specs.Inner.{freshAt};
+ghost use Rattle.tables.specs.Machines.{entriesOf};
+ghost use Rattle.inspect.specs.Inner.{goodAt, goodEntries, markOf, markedAt, Next};
 use crate::fields;
 use sets::Tag;
 use tables::Conf;
 use tables::rows;
 use tables::search;
 
-pub fn entry(k: Conf, row: &[u32]) -> bool
-    requires { ⌜ length (now row) ≡ 20 ⌝ }
-    ensures { λ r. ⌜ r ≡ goodEntry k (entryOf (now (row .entry))) ⌝ }
-{
-    let e = rows::entry_at(row);
-    if e.state == 0 {
-        return fields::zero(row);
-    }
-    let t = e.tag;
-    (e.state <= 2) & fields::tag(k, t) & (e.spare == 0)
-}
-
-pub fn all(k: Conf, l: &[u32]) -> bool
-    requires { ⌜ 240 ≤ length (now l) ⌝ }
-    ensures { λ r. ⌜ r ≡ eachRow (λ e. goodEntry k) 1 (entriesOf (now (l .entry))) ⌝ }
-{
-    let mut ok = true;
-    let mut j: usize = 0;
-    while j < 12 {
-        let at = j * 20;
-        let end = at + 20;
-        ok = ok & entry(k, &l[at..end]);
-        j += 1;
-    }
-    ok
-}
-
 // Whether one of the first n entries has the tag.
 pub fn some_has(l: &[u32], n: usize, t: Tag) -> bool
     requires { ⌜ (240 ≤ length (now l)) × (n ≤ 12) ⌝ }
     ensures { λ r. ⌜ r ≡ some? (hasTag t) (take n (entriesOf (now (l .entry)))) ⌝ }
 {
-    let mut any = false;
     let mut j: usize = 0;
     while j < n {
         let at = j * 20;
-        any = any | search::has_tag(&l[at..], t);
+        if search::has_tag(&l[at..], t) {
+            return true;
+        }
         j += 1;
     }
-    any
+    false
 }
 
-// Whether entry j is free, or its tag stands in no entry before it.
-pub fn fresh(l: &[u32], j: usize) -> bool
+// The mark of a tag, one of 32.
+pub fn mark(t: Tag) -> u32
+    ensures { λ r. ⌜ r ≡ markOf t ⌝ }
+{
+    t.number % 4 * 8 + t.client % 8 + 1
+}
+
+// The marks, and that of entry j where it is in use.
+pub fn marked(l: &[u32], j: usize, marks: u32) -> u32
     requires { ⌜ (240 ≤ length (now l)) × (j < 12) ⌝ }
-    ensures { λ r. ⌜ r ≡ freshAt (entriesOf (now (l .entry))) j ⌝ }
+    ensures { λ r. ⌜ r ≡ markedAt (entriesOf (now (l .entry))) j marks ⌝ }
 {
     let at = j * 20;
-    let e = rows::entry_at(&l[at..]);
+    let end = at + 20;
+    let e = rows::entry_at(&l[at..end]);
     if e.state == 0 {
-        return true;
+        return marks;
     }
     let t = e.tag;
-    !some_has(l, j, t)
+    sets::added(marks, mark(t))
 }
 
-pub fn tags_once(l: &[u32]) -> bool
-    requires { ⌜ 240 ≤ length (now l) ⌝ }
-    ensures { λ r. ⌜ r ≡ tagsOnce (entriesOf (now (l .entry))) ⌝ }
+// Whether an entry before entry j has the tag: without its mark none has, and none is searched.
+pub fn stands_before(l: &[u32], j: usize, marks: u32, t: Tag) -> bool
+    requires { ⌜ Next (now l) j marks ⌝ }
+    ensures { λ r. ⌜ r ≡ some? (hasTag t) (take j (entriesOf (now (l .entry)))) ⌝ }
 {
-    let mut ok = true;
+    sets::is_in(marks, mark(t)) && some_has(l, j, t)
+}
+
+// Whether entry j is good and its tag stands in no entry before it.
+pub fn entry(k: Conf, l: &[u32], j: usize, marks: u32) -> bool
+    requires { ⌜ Next (now l) j marks ⌝ }
+    ensures { λ r. ⌜ r ≡ goodAt k (entriesOf (now (l .entry))) j ⌝ }
+{
+    let at = j * 20;
+    let end = at + 20;
+    let e = rows::entry_at(&l[at..end]);
+    if e.state == 0 {
+        return fields::zero(&l[at..end]);
+    }
+    let t = e.tag;
+    (e.state <= 2) & (e.spare == 0) && (fields::tag(k, t) && !stands_before(l, j, marks, t))
+}
+
+// Every entry is good, and no tag stands in two.
+pub fn all(k: Conf, l: &[u32]) -> bool
+    requires { ⌜ 240 ≤ length (now l) ⌝ }
+    ensures { λ r. ⌜ r ≡ goodEntries k (entriesOf (now (l .entry))) ⌝ }
+{
+    let mut marks: u32 = 0;
     let mut j: usize = 0;
     while j < 12 {
-        ok = ok & fresh(l, j);
+        if !entry(k, l, j, marks) {
+            return false;
+        }
+        marks = marked(l, j, marks);
         j += 1;
     }
-    ok
+    true
 }
 
 pub fn some_secured(l: &[u32]) -> bool
     requires { ⌜ 240 ≤ length (now l) ⌝ }
     ensures { λ r. ⌜ r ≡ some? isSecured (entriesOf (now (l .entry))) ⌝ }
 {
-    let mut any = false;
     let mut j: usize = 0;
     while j < 12 {
-        any = any | (l[j * 20] == 2);
+        if l[j * 20] == 2 {
+            return true;
+        }
         j += 1;
     }
-    any
+    false
 }

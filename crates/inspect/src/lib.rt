@@ -1,11 +1,12 @@
-// Whether a machine is bad, document 01, "A bad machine". It runs on every call: the tests of a row are joined by `&` and `|`, without branches.
+// Whether a machine is bad, document 01, "A bad machine". It runs on every call: what a kind or a phase may hold is worked out once, and the first bad row of a table ends it.
 ghost use mathlib.Core.Path.{_≡_};
 ghost use Prim.Native.Nat.{_≤_};
 ghost use lib.ListN.{length};
 ghost use Rattle.inspect.specs.Good.{good};
 use tables::rows;
 
-pub mod fields; // fields.rt: numbers, tags, sets, parties, runs of zeros
+pub mod fields; // fields.rt: numbers, tags, sets, runs of zeros
+pub mod limits; // limits.rt: what a row may hold, by kind and by phase
 pub mod row; // row.rt: one row
 pub mod entries; // entries.rt: the entries of one replica
 pub mod table; // table.rt: every row of a table

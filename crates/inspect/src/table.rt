@@ -2,23 +2,34 @@
 ghost use mathlib.Core.Path.{_≡_};
 ghost use Prim.Native.Nat.{_≤_};
 ghost use lib.ListN.{length};
-ghost use Rattle.sets.specs.Choice.{if_then_else_};
-ghost use Rattle.tables.specs.Words.{clientWords, clientOf, directoryWords, directoryOf, messageOf, machineOf};
+ghost use Rattle.sets.specs.Plain.{if_then_else_};
+ghost use Rattle.tables.specs.declared.Conf.{Conf};
+ghost use Rattle.tables.specs.Words.{clientWords, directoryWords};
+ghost use Rattle.tables.specs.Machines.{clientOf, directoryOf, messageOf, machineOf};
 ghost use Rattle.inspect.specs.Good.{zeros, eachRow, goodClient, goodDirectory, clientRow, directoryRow, replicaRow, slotRow};
-ghost use Rattle.inspect.specs.Inner.{Few, FewIn, replicaIn};
+ghost use Rattle.inspect.specs.Inner.{Few, FewIn, replicaIn, kindTable, phaseTable};
 use crate::entries;
 use crate::fields;
+use crate::limits;
 use crate::row;
 use tables::Conf;
 use tables::rows;
 
-pub fn client(k: Conf, used: bool, l: &[u32]) -> bool
-    requires { ⌜ FewIn k 24 (now l) ⌝ }
-    ensures { λ r. ⌜ r ≡ (if used then goodClient k (clientOf (now (l .entry))) else zeros (clientWords (clientOf (now (l .entry))))) ⌝ }
+// By the limits of its phase: t is their table, of whatever numbers k.
+pub fn client(t: &[[u32; 8]], used: bool, l: &[u32]) -> bool
+    requires { ⌜ (length (now t) ≡ 7) × (length (now l) ≡ 24) ⌝ }
+    ensures { λ r. ⌜ ((k : Conf) → now (t .entry) ≡ phaseTable k
+        → r ≡ (if used then goodClient k (clientOf (now (l .entry))) else zeros (clientWords (clientOf (now (l .entry)))))) ⌝ }
 {
     if used {
+        let phase = l[1];
+        if 6 < phase {
+            return false;
+        }
+        let y = limits::row(t[phase as usize]);
         let w = rows::client_at(l);
-        return row::client(k, w);
+        let page = fields::joined(&l[8..24]);
+        return row::client(y, w, page);
     }
     fields::zero(l)
 }
@@ -27,15 +38,17 @@ pub fn clients(k: Conf, m: &[u32]) -> bool
     requires { ⌜ (4992 ≤ length (now m)) × Few k ⌝ }
     ensures { λ r. ⌜ r ≡ eachRow (clientRow k) 1 (machineOf (now (m .entry)) .clients) ⌝ }
 {
-    let mut ok = true;
+    let t = limits::phases(k);
     let mut i: usize = 0;
     while i < 8 {
         let at = 16 + i * 24;
         let end = at + 24;
-        ok = ok & client(k, i < k.clients as usize, &m[at..end]);
+        if !client(&t, i < k.clients as usize, &m[at..end]) {
+            return false;
+        }
         i += 1;
     }
-    ok
+    true
 }
 
 pub fn directory(k: Conf, used: bool, l: &[u32]) -> bool
@@ -70,7 +83,7 @@ pub fn replica(k: Conf, used: bool, down: u32, l: &[u32]) -> bool
     ensures { λ r. ⌜ r ≡ replicaIn k used down (now (l .entry)) ⌝ }
 {
     if used {
-        return (down <= 1) & entries::all(k, l) & entries::tags_once(l) & entries::some_secured(l);
+        return (down <= 1) && (entries::all(k, l) && entries::some_secured(l));
     }
     (down == 0) & fields::zero(l)
 }
@@ -79,42 +92,50 @@ pub fn replicas(k: Conf, m: &[u32]) -> bool
     requires { ⌜ 4992 ≤ length (now m) ⌝ }
     ensures { λ r. ⌜ r ≡ eachRow (replicaRow k) 1 (machineOf (now (m .entry)) .replicas) ⌝ }
 {
-    let mut ok = true;
     let mut i: usize = 0;
     while i < 7 {
         let at = 240 + i * 240;
         let end = at + 240;
         let down = m[228 + i];
-        ok = ok & replica(k, i < k.replicas as usize, down, &m[at..end]);
+        if !replica(k, i < k.replicas as usize, down, &m[at..end]) {
+            return false;
+        }
         i += 1;
     }
-    ok
+    true
 }
 
-pub fn slot(k: Conf, l: &[u32]) -> bool
-    requires { ⌜ FewIn k 24 (now l) ⌝ }
-    ensures { λ r. ⌜ r ≡ slotRow k 0 (messageOf (now (l .entry))) ⌝ }
+// By the limits of its kind.
+pub fn slot(t: &[[u32; 8]], l: &[u32]) -> bool
+    requires { ⌜ (length (now t) ≡ 16) × (length (now l) ≡ 24) ⌝ }
+    ensures { λ r. ⌜ ((k : Conf) → now (t .entry) ≡ kindTable k → r ≡ slotRow k 0 (messageOf (now (l .entry)))) ⌝ }
 {
     let kind = l[0];
-    let pageless = fields::zero(&l[8..24]);
     if kind == 0 {
-        return fields::zero(&l[0..8]) & pageless;
+        return fields::zero(&l[0..4]) && fields::zero(&l[4..24]);
     }
+    if 15 < kind {
+        return false;
+    }
+    let y = limits::row(t[kind as usize]);
     let x = rows::message_at(l);
-    row::message(k, x, pageless)
+    let page = fields::joined(&l[8..24]);
+    row::message(y, x, page)
 }
 
 pub fn slots(k: Conf, m: &[u32]) -> bool
     requires { ⌜ (4992 ≤ length (now m)) × Few k ⌝ }
     ensures { λ r. ⌜ r ≡ eachRow (slotRow k) 1 (machineOf (now (m .entry)) .slots) ⌝ }
 {
-    let mut ok = true;
+    let t = limits::kinds(k);
     let mut i: usize = 0;
     while i < 128 {
         let at = 1920 + i * 24;
         let end = at + 24;
-        ok = ok & slot(k, &m[at..end]);
+        if !slot(&t, &m[at..end]) {
+            return false;
+        }
         i += 1;
     }
-    ok
+    true
 }

@@ -1,6 +1,5 @@
 -- What a good machine says of the message in a slot: its receiver and its sender are parties of their kinds.
 use mathlib.Core.Path.{_≡_, refl, sym, ap, _∙_}
-use mathlib.Core.Bool.{true}
 use mathlib.Core.List.{List}
 use Prim.Native.Nat.{ℕ, suc, _^_, _≤_, _<_}
 use native.Mathlib.Nat.{lt-of-lt-of-le}
@@ -8,20 +7,20 @@ use native.Mathlib.Decide.{ℕ-discrete}
 use native.Mathlib.Omega.{arith}
 use borrow.Author.Tests.{ne-eqb}
 use lib.Pow.{pow-mono}
+use Rattle.sets.specs.Sets.{all}
+use Rattle.sets.proofs.Laws.{all-lt}
 use Rattle.tables.specs.declared.Conf.{Conf}
 use Rattle.tables.specs.declared.Message.{Message}
 use Rattle.tables.specs.declared.Party.{Party}
 use Rattle.tables.specs.declared.Party.the-variants.{Nobody, AClient, ADirectory, AReplica}
 use Rattle.tables.specs.Kinds.{senderOf, receiverOf, manyOf}
 use Rattle.tables.specs.Tables.{slotAt}
-use Rattle.tables.specs.Words.{confOf, machineOf}
+use Rattle.tables.specs.Machines.{confOf, machineOf}
 use Rattle.tables.proofs.Read.{slots-many}
-use Rattle.inspect.specs.Good.{good}
-use Rattle.inspect.proofs.Facts.{NumbersFacts, numbers-facts, numbers-pass, MessageFacts, message-facts, message-good, good-machine}
+use Rattle.inspect.proofs.Facts.{NumbersFacts, MessageFacts, message-facts}
+use Rattle.inspect.proofs.Machines.{message-good, good-machine}
 use Rattle.machine.specs.Inner.{Ready, mostOf, Arrived}
-
-pub numbers-of : (m : List ℕ) → good m ≡ true → NumbersFacts (machineOf m .conf)
-numbers-of m g = numbers-facts (machineOf m .conf) (numbers-pass (machineOf m) (good-machine m g))
+use Rattle.machine.proofs.Parties.{numbers-of}
 
 -- the seven numbers of a buffer
 pub conf-of : (m : List ℕ) → confOf m ≡ machineOf m .conf
@@ -31,6 +30,9 @@ conf-of m = refl
 -- a set of few parties is one of many
 pub below-two : (n k s : ℕ) → s < 2 ^ n → n ≤ k → s < 2 ^ k
 below-two n k s h l = lt-of-lt-of-le h (pow-mono l)
+
+pub all-small : (n : ℕ) → n ≤ 16 → all n < 2 ^ 16
+all-small n h = below-two n 16 (all n) (all-lt n) h
 
 module _ (k : Conf) (n : NumbersFacts k) where
   many-few : (who : Party) → manyOf k who ≤ mostOf who
@@ -66,7 +68,7 @@ module _ (m : List ℕ) (s : ℕ) (x : Message) (g : Ready m) (b : s < 128) (e :
     arrived who q z =
         let some : x .kind ≡ 0 → ⊥ = λ k. z (sym q ∙ w ∙ ap receiverOf k) in
         let f = message-of some in
-        let n = numbers-of m (g .fine) in
+        let n = numbers-of m (g .fine) (machineOf m .conf) (sym (conf-of m)) in
         let from : x .sender ≤ 8 = omega (arith, f .sender, many-eight (machineOf m .conf) n (senderOf (x .kind))) in
         let to : x .receiver ≤ manyOf (machineOf m .conf) who = rw (sym w ∙ q) at (f .receiver) in
         record {

@@ -5,10 +5,11 @@ use mathlib.Core.List.{List, []}
 use Prim.Native.Nat.{ℕ, zero, suc, _-_}
 use native.Mathlib.Omega.{arith}
 use borrow.Author.Tests.{not-true, not-false, eq-eqb, ne-eqb, lt-leb}
-use lib.ListN.{length, drop}
+use lib.ListN.{drop}
 use Rattle.tables.specs.declared.Conf.{Conf}
 use Rattle.tables.specs.Kinds.{manyOf}
-use Rattle.tables.specs.Words.{confOf, words, machineOf}
+use Rattle.tables.specs.Words.{words}
+use Rattle.tables.specs.Machines.{confOf, machineOf}
 use Rattle.inspect.specs.Good.{between, isParty}
 use Rattle.rules.specs.declared.Answer.{Answer}
 use Rattle.rules.specs.Answers.{coded}

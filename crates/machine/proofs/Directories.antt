@@ -2,7 +2,7 @@
 use mathlib.Core.Path.{_≡_, ap, _∙_}
 use mathlib.Core.Bool.{Bool, true, false}
 use mathlib.Core.List.{List}
-use Prim.Native.Nat.{ℕ, suc, _-_, _^_, _<_}
+use Prim.Native.Nat.{ℕ, suc, _-_}
 use native.Mathlib.Omega.{arith}
 use borrow.Author.Tests.{eq-eqb, ne-eqb}
 use lib.Dec.{eqb}
@@ -15,7 +15,8 @@ use Rattle.tables.specs.declared.Directory.{Directory}
 use Rattle.tables.specs.declared.Message.{Message}
 use Rattle.tables.specs.declared.Party.the-variants.{ADirectory, AReplica}
 use Rattle.tables.specs.Tables.{Page, noMessage, directoryAt, withSlot}
-use Rattle.tables.specs.Words.{confOf, words, machineOf}
+use Rattle.tables.specs.Words.{words}
+use Rattle.tables.specs.Machines.{confOf, machineOf}
 use Rattle.rules.specs.declared.Answer.{Answer}
 use Rattle.rules.specs.declared.Post.{Post}
 use Rattle.rules.specs.Answers.{coded}
@@ -24,30 +25,29 @@ use Rattle.rules.specs.Inner.{DirectoryAble}
 use Rattle.machine.specs.Effects.{directory}
 use Rattle.machine.specs.Calls.{isDown}
 use Rattle.machine.specs.Deliver.{taken, directoryEffect, deliverEffect}
-use Rattle.machine.specs.Inner.{Arrived, Delivered, hasRoom, Committed}
-use Rattle.machine.proofs.Arrivals.{numbers-of, conf-of}
+use Rattle.machine.specs.Inner.{mostOf, Arrived, Delivered, hasRoom, Committed}
+use Rattle.machine.proofs.Arrivals.{conf-of}
+use Rattle.machine.proofs.Addressed.{Small, Sends}
+use Rattle.machine.proofs.Parties.{numbers-of}
 use Rattle.machine.proofs.Landings.{own, effect-up, lands, drops, not-full, page-kept}
 
 module _ {m : List ℕ} {s : ℕ} {x : Message} (g : Arrived ADirectory m s x) where
   no-replica : ADirectory ≡ AReplica → ⊥
-  no-replica q = let z : _≡_ {A = ℕ} 0 1 = cc in omega arith
+  no-replica q = omega (arith, ap mostOf q)
 
   pub directory-able : (k : Conf) → k ≡ confOf m → DirectoryAble (k .f) x
-  directory-able k e = let n = numbers-of m (g .fine) in record { few = rw (e ∙ conf-of m) (n .few-crashes); sender = g .sender }
+  directory-able k e = record { few = numbers-of m (g .fine) k e .few-crashes; sender = g .sender }
 
   -- it replies to the sender alone
-  pub directory-few : (d : Directory) (p : Post) → p ≡ directoryPost d x → p .to < 2 ^ 16
+  pub directory-few : (d : Directory) (p : Post) → p ≡ directoryPost d x → Sends p
   unfolding directoryPost
   directory-few d p e =
-      let h : only (x .sender) < 2 ^ 16 = only-lt 16 (x .sender) (omega (arith, g .few)) in
+      let h : Small (only (x .sender)) = only-lt 16 (x .sender) (omega (arith, g .few)) in
       rw e
-      (if-ind few (eqb (x .kind) 1) (λ _. h)
-      (λ _. if-ind few (eqb (x .kind) 2) (λ _. h)
-      (λ _. if-ind few (eqb (x .kind) 3) (λ _. h)
-      (λ _. if-ind few (eqb (x .kind) 4) (λ _. h) (λ _. omega arith)))))
-    where
-      few : Post → Type 0
-      few p = p .to < 2 ^ 16
+      (if-ind Sends (eqb (x .kind) 1) (λ _. h)
+      (λ _. if-ind Sends (eqb (x .kind) 2) (λ _. h)
+      (λ _. if-ind Sends (eqb (x .kind) 3) (λ _. h)
+      (λ _. if-ind Sends (eqb (x .kind) 4) (λ _. h) (λ _. omega arith)))))
 
   module _ (d : Directory) (e : d ≡ directoryAt (machineOf m) (suc (x .receiver - 1))) where
     here : d ≡ directoryAt (machineOf m) (x .receiver)

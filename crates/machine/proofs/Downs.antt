@@ -1,5 +1,5 @@
 -- Counts: rows that begin with 1, and slots that are not empty.
-use mathlib.Core.Path.{_≡_, refl, sym, ap, _∙_}
+use mathlib.Core.Path.{_≡_, refl, _∙_}
 use mathlib.Core.Bool.{Bool, true, false, not}
 use mathlib.Core.List.{List, [], _∷_}
 use Prim.Native.Nat.{ℕ, zero, suc, _+_, _*_, _-_, _≤_, _<_}
@@ -9,10 +9,10 @@ use borrow.Author.Tests.{eq-eqb, ne-eqb}
 use lib.Dec.{eqb}
 use lib.ListN.{length, getD, drop}
 use lib.Seq.{getD-drop}
-use Rattle.sets.specs.Choice.{if_then_else_}
-use Rattle.tables.specs.Rows.{rowsOf, count}
+use Rattle.sets.specs.Plain.{if_then_else_}
+use Rattle.tables.specs.Rows.{count}
+use Rattle.tables.specs.Machines.{rowsOf, clientOf, directoryOf, replicasOf, machineOf}
 use Rattle.tables.specs.Tables.{isEmpty}
-use Rattle.tables.specs.Words.{clientOf, directoryOf, replicasOf, machineOf}
 use Rattle.tables.proofs.Read.{slots-many}
 use Rattle.tables.proofs.Table.{wider, length-rowsOf, getD-rowsOf}
 use Rattle.machine.proofs.Places.{count-le, few-empty}

@@ -1,6 +1,5 @@
 -- Set-up: the words zeroed, the numbers written, and then each directory and each replica.
-use mathlib.Core.Path.{_≡_, refl, sym, ap, _∙_}
-use mathlib.Core.Bool.{Bool, true, false}
+use mathlib.Core.Path.{_≡_, refl, ap, _∙_}
 use mathlib.Core.List.{List, [], _∷_, _++_, map, append-nil}
 use Prim.Native.Nat.{ℕ, zero, suc, _+_, _-_, _≤_, _<_}
 use native.Mathlib.Nat.{not-suc-le-zero, le-of-suc-le-suc}
@@ -11,15 +10,17 @@ use borrow.Author.Fill.{fill-more}
 use borrow.Author.Tests.{le-leb, lt-leb}
 use lib.Dec.{leb}
 use lib.ListN.{length, getD, set, drop, replicate, length-set, length-drop}
-use Rattle.sets.specs.Choice.{if_then_else_, numbers}
+use Rattle.sets.specs.Plain.{if_then_else_, numbers}
 use Rattle.sets.specs.Tags.{first}
 use Rattle.sets.specs.Sets.{all}
 use Rattle.tables.specs.declared.Conf.{Conf}
 use Rattle.tables.specs.declared.Directory.{Directory}
 use Rattle.tables.specs.declared.Entry.{Entry}
-use Rattle.tables.specs.Rows.{put, rowsWords, joined}
-use Rattle.tables.specs.Tables.{Page, Replica, Machine, noPage, noClient, noDirectory, noEntry, noReplica, noMessage, withDirectory, withEntry}
-use Rattle.tables.specs.Words.{confWords, clientWords, directoryWords, downWords, entryWords, replicaWords, messageWords, blocks, words, machineOf}
+use Rattle.tables.specs.Rows.{rowsWords, joined}
+use Rattle.tables.specs.Inner.{put, withEntry}
+use Rattle.tables.specs.Tables.{Page, Machine, noPage, noClient, noDirectory, noEntry, noReplica, noMessage, withDirectory}
+use Rattle.tables.specs.Words.{confWords, clientWords, directoryWords, downWords, entryWords, replicaWords, messageWords, blocks, words}
+use Rattle.tables.specs.Machines.{machineOf}
 use Rattle.tables.proofs.All.{all-replicate}
 use Rattle.tables.proofs.Read.{directories-many, replicas-many}
 use Rattle.tables.proofs.Whole.{Paged, Whole, blank-client, blank-message, blank-replica, whole-directory, whole-entry}

@@ -1,16 +1,15 @@
 -- A delivery by its effect: dropped, refused with 23 or 24, or taken.
 use mathlib.Core.Path.{_≡_, refl, sym, ap, _∙_}
 use mathlib.Core.Bool.{Bool, true, false, not, and-false}
-use mathlib.Core.List.{List, [], _∷_, map}
+use mathlib.Core.List.{List, [], _∷_}
 use Prim.Native.Nat.{ℕ, suc, _+_, _-_, _^_, _≤_, _<_}
 use native.Mathlib.Omega.{arith}
-use borrow.Author.Tests.{ne-eqb, le-leb, leb-true, leb-false, lt-ltb, le-ltb, not-true, not-false}
+use borrow.Author.Tests.{ne-eqb, le-leb, not-true, not-false}
 use lib.Dec.{leb}
 use lib.ListN.{length, set, drop}
-use Rattle.sets.specs.Choice.{if_then_else_}
+use Rattle.sets.specs.Plain.{if_then_else_}
 use Rattle.sets.specs.Sets.{size}
 use Rattle.sets.proofs.Laws.{size-none}
-use Rattle.sets.proofs.Members.{members-none}
 use Rattle.tables.specs.declared.Client.{Client}
 use Rattle.tables.specs.declared.Directory.{Directory}
 use Rattle.tables.specs.declared.Message.{Message}
@@ -18,7 +17,8 @@ use Rattle.tables.specs.declared.Party.{Party}
 use Rattle.tables.specs.declared.Party.the-variants.{AReplica}
 use Rattle.tables.specs.Kinds.{receiverOf}
 use Rattle.tables.specs.Tables.{Page, Replica, Machine, noMessage, isEmpty, replicaAt, slotAt, withClient, withDirectory, withReplica, withSlots, withSlot}
-use Rattle.tables.specs.Words.{words, machineOf}
+use Rattle.tables.specs.Words.{words}
+use Rattle.tables.specs.Machines.{machineOf}
 use Rattle.tables.proofs.Read.{slots-many}
 use Rattle.tables.proofs.Whole.{wholeOf, whole-client, whole-directory, whole-replica}
 use Rattle.tables.proofs.Holds.{Holds, holds-machine, holds-rest}
@@ -26,22 +26,25 @@ use Rattle.inspect.specs.Good.{between}
 use Rattle.rules.specs.declared.Answer.{Answer}
 use Rattle.rules.specs.declared.Post.{Post}
 use Rattle.rules.specs.Answers.{coded}
-use Rattle.rules.specs.Posts.{noPost, toReceiver, messagesOf}
+use Rattle.rules.specs.Posts.{noPost, messagesOf}
 use Rattle.rules.specs.Replica.{isFull, replicaAfter}
+use Rattle.rules.proofs.Every.{stock-after}
 use Rattle.machine.specs.Slots.{placed, emptySlots}
 use Rattle.machine.specs.Effects.{Change, nothing, client, directory, replica, changed}
 use Rattle.machine.specs.Calls.{deliver, isDown}
 use Rattle.machine.specs.Deliver.{taken, received, deliverEffect}
-use Rattle.machine.specs.Refusals.{isOverfull, noSlot, test, firstOf, refusal}
+use Rattle.machine.specs.Refusals.{isOverfull, noSlot, firstOf, refusal}
 use Rattle.machine.specs.Steps.{effectOf, step}
 use Rattle.machine.specs.Inner.{Took, Arrived, hasRoom, Committed, stocked}
+use Rattle.machine.proofs.Rooms.{too-few}
 use Rattle.machine.proofs.Places.{count-more, length-messages}
-use Rattle.machine.proofs.Stored.{stock-after, stock-in}
+use Rattle.machine.proofs.Quiet.{no-messages}
+use Rattle.machine.proofs.Stored.{as-replica, stock-in}
 use Rattle.machine.proofs.Steps.{took-refused, took-accepted}
 
 -- the table of codes for a delivery, by its tests of 18, 22, 23 and 24
 abbrev pub tested : (a b c d : Bool) → ℕ
-tested a b c d = firstOf (test 18 a ∷ test 19 false ∷ test 20 false ∷ test 21 false ∷ test 22 b ∷ test 23 c ∷ test 24 d ∷ [])
+tested a b c d = firstOf ((18, a) ∷ (19, false) ∷ (20, false) ∷ (21, false) ∷ (22, b) ∷ (23, c) ∷ (24, d) ∷ [])
 
 module _ (a b c d : Bool) where
   pub tested-18 : a ≡ true → tested a b c d ≡ 18
@@ -55,10 +58,6 @@ module _ (a b c d : Bool) where
 
   tested-24 : a ≡ false → b ≡ false → c ≡ false → tested a b c d ≡ (if d then 24 else 0)
   tested-24 p q r = rw (p, q, r)
-
-no-messages : messagesOf noPost ≡ []
-unfolding messagesOf
-no-messages = ap (map (toReceiver noMessage)) (members-none 16)
 
 blank : isEmpty noMessage ≡ true
 unfolding noMessage
@@ -95,7 +94,7 @@ module _ {who : Party} {m : List ℕ} {s : ℕ} {x : Message} (g : Arrived who m
   own = omega (arith, g .low)
 
   -- ---- the effect
-  pub effect-down : (page : Page) → isDown (machineOf m) who (x .receiver) ≡ true
+  effect-down : (page : Page) → isDown (machineOf m) who (x .receiver) ≡ true
       → deliverEffect (machineOf m) (suc s) page ≡ taken (suc s) nothing noPost (coded 4) page
   unfolding deliverEffect
   effect-down page d = rw (← g .here, g .whose, d)
@@ -109,29 +108,25 @@ module _ {who : Party} {m : List ℕ} {s : ℕ} {x : Message} (g : Arrived who m
   module _ (page : Page) (o : isOverfull (machineOf m) (slotAt (machineOf m) (suc s)) ≡ false)
       (ch : Change) (y : Post) (a₀ : Answer) (p₀ : Page) (e : deliverEffect (machineOf m) (suc s) page ≡ taken (suc s) ch y a₀ p₀) (few : y .to < 2 ^ 16) where
     -- the code, by the test of 24
-    coded-by : refusal (deliver (suc s) page) (machineOf m) (effectOf (deliver (suc s) page) (machineOf m)) ≡ (if noSlot (machineOf m) (taken (suc s) ch y a₀ p₀) then 24 else 0)
+    coded-by : refusal (deliver (suc s) page) (machineOf m) (effectOf (deliver (suc s) page) (machineOf m)) ≡ (if not (hasRoom (machineOf m) y) then 24 else 0)
     unfolding effectOf refusal
     coded-by =
-        rw e
+        let full : noSlot (machineOf m) (taken (suc s) ch y a₀ p₀) ≡ not (hasRoom (machineOf m) y) =
+        rw (one-freed, length-messages y few) (too-few (emptySlots (machineOf m .slots) + 1) (size (y .to))) in
+        rw (e, ← full)
         (tested-24 (not (between 1 128 (suc s))) (isEmpty (slotAt (machineOf m) (suc s))) (isOverfull (machineOf m) (slotAt (machineOf m) (suc s)))
         (noSlot (machineOf m) (taken (suc s) ch y a₀ p₀)) in-range not-empty o)
 
     pub lands : (a : Answer) (p l : List ℕ) → Committed m s ch y a₀ a l → p ≡ (if hasRoom (machineOf m) y then p₀ else page)
         → Took (step (deliver (suc s) page) (machineOf m)) a p m l
     unfolding effectOf
-    lands a p l w q = go (hasRoom (machineOf m) y) refl (w .answer) (w .buffer) q
+    lands a p l w q = go (hasRoom (machineOf m) y) coded-by (w .answer) (w .buffer) q
       where
-        go : (b : Bool) → leb (size (y .to)) (emptySlots (machineOf m .slots) + 1) ≡ b → a ≡ (if b then a₀ else coded 24)
+        go : (b : Bool) → refusal (deliver (suc s) page) (machineOf m) (effectOf (deliver (suc s) page) (machineOf m)) ≡ (if not b then 24 else 0) → a ≡ (if b then a₀ else coded 24)
             → l ≡ (if b then words (withSlots (changed ch (machineOf m)) (placed (messagesOf y) (set (machineOf m .slots) s noMessage))) (drop 4992 m) else m)
             → p ≡ (if b then p₀ else page) → Took (step (deliver (suc s) page) (machineOf m)) a p m l
-        go true r h k q =
-            let room : noSlot (machineOf m) (taken (suc s) ch y a₀ p₀) ≡ false =
-            le-ltb (emptySlots (set (machineOf m .slots) s noMessage)) (length (messagesOf y)) (omega (arith, one-freed, length-messages y few, leb-true (size (y .to)) (emptySlots (machineOf m .slots) + 1) r)) in
-            took-accepted (deliver (suc s) page) m l p a (coded-by ∙ rw room) (rw e h) (rw e q) (rw e k)
-        go false r h k q =
-            let full : noSlot (machineOf m) (taken (suc s) ch y a₀ p₀) ≡ true =
-            lt-ltb (emptySlots (set (machineOf m .slots) s noMessage)) (length (messagesOf y)) (omega (arith, one-freed, length-messages y few, leb-false (size (y .to)) (emptySlots (machineOf m .slots) + 1) r)) in
-            rw (q, k) (took-refused (deliver (suc s) page) m 24 a (g .long) (λ z. omega arith) (coded-by ∙ rw full) h)
+        go true r h k q = took-accepted (deliver (suc s) page) m l p a r (rw e h) (rw e q) (rw e k)
+        go false r h k q = rw (q, k) (took-refused (deliver (suc s) page) m 24 a (g .long) (λ z. omega arith) r h)
 
   -- a full replica
   pub overfull : (page : Page) → isOverfull (machineOf m) (slotAt (machineOf m) (suc s)) ≡ true → (a : Answer) → a ≡ coded 23
@@ -180,9 +175,8 @@ module _ (m : List ℕ) (s : ℕ) (y : Post) (b : Bool) (r : b ≡ leb (size (y 
         → n ≡ words (withReplica (machineOf m) (suc i) (stocked (machineOf m) (suc i) (replicaAfter (replicaAt (machineOf m) (suc i) .entries) x))) (drop 4992 m) → a ≡ a₀
         → Committed m s (replica (suc i) (stocked (machineOf m) (suc i) (replicaAfter (replicaAt (machineOf m) (suc i) .entries) x))) y a₀ a l
     commits-replica i x a₀ a b p w z =
-        let t = stock-after x p (stock-in m i b h) in
         let r : Replica = stocked (machineOf m) (suc i) (replicaAfter (replicaAt (machineOf m) (suc i) .entries) x) in
-        commits (replica (suc i) r) a₀ a (record { is = w; whole = whole-replica (wholeOf m h) (suc i) r (record { many = t .many; pages = t .pages }) }) refl z
+        commits (replica (suc i) r) a₀ a (record { is = w; whole = whole-replica (wholeOf m h) (suc i) r (as-replica _ (stock-after x p (stock-in m i b h))) }) refl z
 
 pub page-kept : (b : Bool) (page : Page) → page ≡ (if b then page else page)
 page-kept true page = refl

@@ -1,4 +1,5 @@
--- The laws behind the functions.
+-- The laws behind the functions. `runs` and `history` cite Places and Quiet; the rest and the functions' proofs may change freely.
+pub mod Parties
 pub mod Places
 pub mod Sending
 pub mod Steps
@@ -7,10 +8,9 @@ pub mod Arrivals
 pub mod Landings
 pub mod Directories
 pub mod Replicas
+pub mod Addressed
 pub mod Clients
 pub mod Receivers
-pub mod Pageless
-pub mod Parties
 pub mod Quiet
 pub mod Rooms
 pub mod Crashed

@@ -7,10 +7,12 @@ use native.Mathlib.Omega.{arith}
 use borrow.Author.Tests.{not-false}
 use Rattle.tables.specs.declared.Conf.{Conf}
 use Rattle.tables.specs.declared.Party.{Party}
-use Rattle.tables.specs.Words.{confOf, machineOf}
-use Rattle.inspect.specs.Good.{between, isParty, goodNumbers}
+use Rattle.tables.specs.Machines.{confOf, machineOf}
+use Rattle.inspect.specs.Good.{between, isParty, goodNumbers, good}
 use Rattle.inspect.proofs.Tests.{le-by}
-use Rattle.inspect.proofs.Facts.{NumbersFacts, numbers-facts, numbers-pass, good-machine}
+use Rattle.inspect.proofs.Facts.{NumbersFacts, numbers-facts}
+use Rattle.inspect.proofs.Machines.{numbers-pass, good-machine}
+use Rattle.rules.specs.Inner.{Few}
 use Rattle.machine.specs.Inner.{Ready}
 
 -- b tells whether id is one of n parties
@@ -32,13 +34,19 @@ unfolding machineOf
 own-party m k at who id b e = rw (← at, e)
 
 -- the numbers of a machine that is not bad
-pub ready-numbers : (m : List ℕ) → Ready m → (k : Conf) → k ≡ confOf m → goodNumbers k ≡ true
+pub ready-numbers : (m : List ℕ) → good m ≡ true → (k : Conf) → k ≡ confOf m → goodNumbers k ≡ true
 unfolding machineOf
-ready-numbers m g k at = rw at (numbers-pass (machineOf m) (good-machine m (g .fine)))
+ready-numbers m g k at = rw at (numbers-pass (machineOf m) (good-machine m g))
+
+pub numbers-of : (m : List ℕ) → good m ≡ true → (k : Conf) → k ≡ confOf m → NumbersFacts k
+numbers-of m g k at = numbers-facts k (ready-numbers m g k at)
+
+pub few-sets : (k : Conf) → goodNumbers k ≡ true → Few k
+few-sets k g = let n = numbers-facts k g in record { directories = omega arith; replicas = omega arith }
 
 module _ (m : List ℕ) (g : Ready m) (k : Conf) (at : k ≡ confOf m) (id : ℕ) (b : Bool) (h : not b ≡ false) where
   numbers : NumbersFacts k
-  numbers = numbers-facts k (ready-numbers m g k at)
+  numbers = numbers-of m (g .fine) k at
 
   pub client-place : b ≡ between 1 (k .clients) id → id - 1 < 8
   client-place e = omega (arith, numbers .few-clients, party-high id (k .clients) b e h)

@@ -1,25 +1,27 @@
--- Slots counted, freed and filled, and a machine whose slots are filled is whole.
+-- Slots counted, freed and filled: what holds of each, and a machine whose slots are filled is whole.
 use mathlib.Core.Path.{_≡_, refl, ap, _∙_}
 use mathlib.Core.Bool.{Bool, true, false}
-use mathlib.Core.List.{List, [], _∷_, map}
+use mathlib.Core.List.{List, [], _∷_, map, List·Memᴰ, List·Memᴰ·head, List·Memᴰ·tail}
 use Prim.Native.Nat.{ℕ, zero, suc, _+_, _^_, _≤_, _<_}
 use native.Mathlib.Nat.{le-of-suc-le-suc, not-suc-le-zero}
 use native.Mathlib.Omega.{arith}
-use lib.ListN.{length, getD, set}
-use Rattle.sets.specs.Choice.{if_then_else_}
+use lib.ListN.{length, getD, set, length-map, length-set}
+use Rattle.sets.specs.Plain.{if_then_else_}
 use Rattle.sets.specs.Sets.{size, members}
-use Rattle.sets.proofs.Members.{length-members}
+use Rattle.sets.specs.Inner.{_∈_}
+use Rattle.sets.proofs.Members.{length-members, members-in}
 use Rattle.tables.specs.declared.Message.{Message}
 use Rattle.tables.specs.Rows.{count, putFirst}
-use Rattle.tables.specs.Tables.{Machine, withSlots, isEmpty}
-use Rattle.tables.specs.Words.{machineOf}
-use Rattle.tables.proofs.All.{All, none, cons}
-use Rattle.tables.proofs.Lists.{all-putFirst}
+use Rattle.tables.specs.Inner.{before}
+use Rattle.tables.specs.Tables.{Machine, noMessage, withSlots, isEmpty}
+use Rattle.tables.specs.Machines.{machineOf}
+use Rattle.tables.proofs.All.{All, none, cons, all-withRow}
+use Rattle.tables.proofs.Lists.{putFirst-set, all-putFirst}
 use Rattle.tables.proofs.Read.{slots-many}
 use Rattle.tables.proofs.Whole.{Paged, Whole, whole-slots}
 use Rattle.rules.specs.declared.Post.{Post}
 use Rattle.rules.specs.Posts.{toReceiver, messagesOf}
-use Rattle.machine.specs.Slots.{placed, emptySlots}
+use Rattle.machine.specs.Slots.{placed, freed, emptySlots}
 
 -- ---- counts
 
@@ -49,35 +51,35 @@ count-more p d x (y ∷ xs) (suc i) h f t = go (p y) (count-more p d x xs i (le-
 -- one message for each in the set
 pub length-messages : (y : Post) → y .to < 2 ^ 16 → length (messagesOf y) ≡ size (y .to)
 unfolding messagesOf
-length-messages y h = length-map (toReceiver (y .message)) (members 16 (y .to)) ∙ length-members 16 (y .to) h
-  where
-    length-map : (f : ℕ → Message) (ps : List ℕ) → length (map f ps) ≡ length ps
-    length-map f [] = refl
-    length-map f (p ∷ ps) = ap suc (length-map f ps)
+length-messages y h = length-map (members 16 (y .to)) (toReceiver (y .message)) ∙ length-members 16 (y .to) h
 
--- ---- pages of 16 words
+-- ---- what holds of each message
 
+pub all-from : {A B : Type 0} {P : B → Type 0} (f : A → B) (xs : List A) → ((a : A) → List·Memᴰ a xs → P (f a)) → All P (map f xs)
+all-from f [] h = none
+all-from f (x ∷ xs) h = cons (h x (List·Memᴰ·head refl)) (all-from f xs (λ a m. h a (List·Memᴰ·tail m)))
+
+module _ (P : Message → Type 0) where
+  pub all-sent : (y : Post) → ((p : ℕ) → p ∈ y .to → P (toReceiver (y .message) p)) → All P (messagesOf y)
+  unfolding messagesOf
+  all-sent y h = all-from (toReceiver (y .message)) (members 16 (y .to)) (λ p m. h p (members-in 16 (y .to) p m .2))
+
+  pub all-placed : {xs ss : List Message} → All P xs → All P ss → All P (placed xs ss)
+  all-placed none hs = hs
+  all-placed (cons {x} h rest) hs = all-placed rest (all-putFirst isEmpty x h hs)
+
+  pub all-freed : {ss : List Message} (emptied : List ℕ) → P noMessage → All P ss → All P (freed emptied ss)
+  all-freed [] q hs = hs
+  all-freed (s ∷ emptied) q hs = all-withRow s noMessage q (all-freed emptied q hs)
+
+pub length-placed : (xs ss : List Message) → length (placed xs ss) ≡ length ss
+length-placed [] ss = refl
+length-placed (x ∷ xs) ss =
+    length-placed xs (putFirst isEmpty x ss) ∙ ap length (putFirst-set isEmpty x ss) ∙ length-set ss (before isEmpty ss) x
+
+-- pages of 16 words
 abbrev pub Pages : List Message → Type 0
 Pages xs = All (λ (x : Message). Paged (x .page)) xs
 
-pub pages-messages : (y : Post) → Paged (y .message .page) → Pages (messagesOf y)
-unfolding messagesOf
-pages-messages y h = go (members 16 (y .to))
-  where
-    go : (ps : List ℕ) → Pages (map (toReceiver (y .message)) ps)
-    go [] = none
-    go (p ∷ ps) = cons h (go ps)
-
-length-putFirst : {A : Type 0} (p : A → Bool) (x : A) (xs : List A) → length (putFirst p x xs) ≡ length xs
-length-putFirst p x [] = refl
-length-putFirst p x (y ∷ xs) = go (p y) (length-putFirst p x xs)
-  where
-    go : (b : Bool) → length (putFirst p x xs) ≡ length xs → length (if b then x ∷ xs else y ∷ putFirst p x xs) ≡ suc (length xs)
-    go true e = refl
-    go false e = ap suc e
-
-module _ {M : Machine} (z : Whole M) where
-  pub whole-placed : (xs ss : List Message) → Pages xs → length ss ≡ 128 → Pages ss → Whole (withSlots M (placed xs ss))
-  whole-placed [] ss none e ps = whole-slots z ss e ps
-  whole-placed (x ∷ xs) ss (cons q qs) e ps =
-      whole-placed xs (putFirst isEmpty x ss) qs (length-putFirst isEmpty x ss ∙ e) (all-putFirst isEmpty x q ps)
+pub whole-placed : {M : Machine} → Whole M → (xs ss : List Message) → Pages xs → length ss ≡ 128 → Pages ss → Whole (withSlots M (placed xs ss))
+whole-placed z xs ss q e ps = whole-slots z (placed xs ss) (length-placed xs ss ∙ e) (all-placed (λ (x : Message). Paged (x .page)) q ps)

@@ -1,30 +1,29 @@
 -- A delivery by its receiver: the slot out of range or empty, and each party's own delivery.
 use mathlib.Core.Path.{_≡_, sym, ap, subst, _∙_}
-use mathlib.Core.Bool.{Bool, true, false, not, _&&_, and-false}
+use mathlib.Core.Bool.{Bool, true, false, not}
 use mathlib.Core.List.{List}
-use Prim.Native.Nat.{ℕ, suc, _-_, _≤_, _<_}
+use Prim.Native.Nat.{ℕ, suc, _-_, _<_}
 use native.Mathlib.Omega.{arith}
-use borrow.Author.Tests.{eq-eqb, not-false, le-leb}
-use lib.Dec.{leb}
+use borrow.Author.Tests.{eq-eqb}
 use Rattle.tables.specs.declared.Message.{Message}
 use Rattle.tables.specs.declared.Party.{Party}
 use Rattle.tables.specs.declared.Party.the-variants.{Nobody, AClient, ADirectory, AReplica}
 use Rattle.tables.specs.Kinds.{receiverOf}
 use Rattle.tables.specs.Tables.{isEmpty, slotAt}
-use Rattle.tables.specs.Words.{machineOf}
+use Rattle.tables.specs.Machines.{machineOf}
 use Rattle.inspect.specs.Good.{between}
-use Rattle.inspect.proofs.Tests.{le-by}
 use Rattle.rules.specs.declared.Answer.{Answer}
 use Rattle.rules.specs.Answers.{coded}
 use Rattle.machine.specs.Calls.{deliver}
 use Rattle.machine.specs.Refusals.{isOverfull, noSlot, refusal}
 use Rattle.machine.specs.Steps.{effectOf, step}
-use Rattle.machine.specs.Inner.{Ready, Took, Arrived, Delivered}
+use Rattle.machine.specs.Inner.{Ready, Took, mostOf, Arrived, Delivered}
 use Rattle.machine.proofs.Steps.{took-refused}
+use Rattle.machine.proofs.Parties.{party-low, party-high, party-row}
 use Rattle.machine.proofs.Landings.{tested-18, tested-22}
 use Rattle.machine.proofs.Arrivals.{is-void, arrived}
 
-module _ (m : List ℕ) (slot : ℕ) (g : Ready m) (b : Bool) (r : b ≡ leb 1 slot && leb slot 128) where
+module _ (m : List ℕ) (slot : ℕ) (g : Ready m) (b : Bool) (r : b ≡ between 1 128 slot) where
   pub bad-slot : (page : List ℕ) (a : Answer) → not b ≡ true → a ≡ coded 18 → Took (step (deliver slot page) (machineOf m)) a page m m
   unfolding refusal
   bad-slot page a n h =
@@ -34,17 +33,11 @@ module _ (m : List ℕ) (slot : ℕ) (g : Ready m) (b : Bool) (r : b ≡ leb 1 s
       h
 
   module _ (n : not b ≡ false) where
-    pub slot-low : 1 ≤ slot
-    slot-low = le-by 1 slot (between 1 128 slot) (λ f. simp f) (sym r ∙ not-false b n)
-
-    slot-high : slot ≤ 128
-    slot-high = le-by slot 128 (between 1 128 slot) (λ f. simp (f, and-false)) (sym r ∙ not-false b n)
-
     pub slot-within : slot - 1 < 128
-    slot-within = omega (arith, slot-low, slot-high)
+    slot-within = omega (arith, party-low slot 128 b r n, party-high slot 128 b r n)
 
     from-one : suc (slot - 1) ≡ slot
-    from-one = omega (arith, slot-low)
+    from-one = party-row slot 128 b r n
 
     pub by-client : (page p : List ℕ) (a : Answer) (l : List ℕ) → Took (step (deliver (suc (slot - 1)) page) (machineOf m)) a p m l
         → Took (step (deliver slot page) (machineOf m)) a p m l
@@ -58,20 +51,17 @@ module _ (m : List ℕ) (slot : ℕ) (g : Ready m) (b : Bool) (r : b ≡ leb 1 s
       pub by-nobody : (page : List ℕ) (a : Answer) → o ≡ Nobody → a ≡ coded 22 → Took (step (deliver slot page) (machineOf m)) a page m m
       unfolding refusal
       by-nobody page a q h =
-          let z : isEmpty (slotAt (machineOf m) (suc (slot - 1))) ≡ true =
-          eq-eqb _ _ (ap (λ (y : Message). y .kind) (sym e) ∙ is-void m (slot - 1) x g slot-within e o w q) in
-          by-client page page a m
-          (took-refused (deliver (suc (slot - 1)) page) m 22 a (g .long) (λ z. omega arith)
-          (tested-22 (not (between 1 128 (suc (slot - 1)))) (isEmpty (slotAt (machineOf m) (suc (slot - 1)))) (isOverfull (machineOf m) (slotAt (machineOf m) (suc (slot - 1))))
-          (noSlot (machineOf m) (effectOf (deliver (suc (slot - 1)) page) (machineOf m)))
-          (rw (le-leb 1 (suc (slot - 1)) (omega arith), le-leb (suc (slot - 1)) 128 (omega (arith, slot-within)))) z)
-          h)
+          let here : x .kind ≡ slotAt (machineOf m) slot .kind = ap (λ (y : Message). y .kind) e ∙ ap (λ (p : ℕ). slotAt (machineOf m) p .kind) from-one in
+          took-refused (deliver slot page) m 22 a (g .long) (λ z. omega arith)
+          (tested-22 (not (between 1 128 slot)) (isEmpty (slotAt (machineOf m) slot)) (isOverfull (machineOf m) (slotAt (machineOf m) slot))
+          (noSlot (machineOf m) (effectOf (deliver slot page) (machineOf m))) (ap not (sym r) ∙ n) (eq-eqb _ _ (sym here ∙ is-void m (slot - 1) x g slot-within e o w q)))
+          h
 
       pub for-client : o ≡ AClient → Arrived AClient m (slot - 1) x
-      for-client q = arrived m (slot - 1) x g slot-within e o w AClient q (λ q. let z : _≡_ {A = ℕ} 0 1 = cc in omega arith)
+      for-client q = arrived m (slot - 1) x g slot-within e o w AClient q (λ z. omega (arith, ap mostOf z))
 
       pub for-directory : o ≡ ADirectory → Arrived ADirectory m (slot - 1) x
-      for-directory q = arrived m (slot - 1) x g slot-within e o w ADirectory q (λ q. let z : _≡_ {A = ℕ} 0 1 = cc in omega arith)
+      for-directory q = arrived m (slot - 1) x g slot-within e o w ADirectory q (λ z. omega (arith, ap mostOf z))
 
       pub for-replica : o ≡ AReplica → Arrived AReplica m (slot - 1) x
-      for-replica q = arrived m (slot - 1) x g slot-within e o w AReplica q (λ q. let z : _≡_ {A = ℕ} 0 1 = cc in omega arith)
+      for-replica q = arrived m (slot - 1) x g slot-within e o w AReplica q (λ z. omega (arith, ap mostOf z))

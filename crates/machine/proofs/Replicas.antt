@@ -2,20 +2,21 @@
 use mathlib.Core.Path.{_≡_, sym, ap, _∙_}
 use mathlib.Core.Bool.{Bool, true, false}
 use mathlib.Core.List.{List}
-use Prim.Native.Nat.{ℕ, suc, _-_, _^_, _≤_, _<_}
+use Prim.Native.Nat.{ℕ, suc, _-_, _≤_}
 use native.Mathlib.Omega.{arith}
 use borrow.Author.Tests.{eq-eqb, ne-eqb}
 use lib.Dec.{eqb}
 use lib.ListN.{drop}
 use Rattle.sets.specs.Sets.{only, all}
-use Rattle.sets.proofs.Laws.{only-lt, all-lt}
+use Rattle.sets.proofs.Laws.{only-lt}
 use Rattle.sets.proofs.Tests.{if-ind}
 use Rattle.tables.specs.declared.Conf.{Conf}
 use Rattle.tables.specs.declared.Entry.{Entry}
 use Rattle.tables.specs.declared.Message.{Message}
 use Rattle.tables.specs.declared.Party.the-variants.{AReplica}
 use Rattle.tables.specs.Tables.{Page, noMessage, replicaAt, slotAt, withSlot}
-use Rattle.tables.specs.Words.{confOf, words, machineOf}
+use Rattle.tables.specs.Words.{words}
+use Rattle.tables.specs.Machines.{confOf, machineOf}
 use Rattle.rules.specs.declared.Answer.{Answer}
 use Rattle.rules.specs.declared.Post.{Post}
 use Rattle.rules.specs.Answers.{coded}
@@ -25,28 +26,25 @@ use Rattle.machine.specs.Calls.{isDown}
 use Rattle.machine.specs.Deliver.{taken, replicaEffect, deliverEffect}
 use Rattle.machine.specs.Refusals.{isOverfull}
 use Rattle.machine.specs.Inner.{Arrived, Delivered, hasRoom, Committed, stocked}
-use Rattle.machine.proofs.Arrivals.{numbers-of, conf-of, below-two}
+use Rattle.machine.proofs.Arrivals.{conf-of, all-small}
+use Rattle.machine.proofs.Addressed.{Small, Sends}
+use Rattle.machine.proofs.Parties.{numbers-of}
 use Rattle.machine.proofs.Landings.{own, effect-up, lands, overfull, drops, page-kept}
 
 module _ {m : List ℕ} {s : ℕ} {x : Message} (g : Arrived AReplica m s x) where
   pub directories-few : (k : Conf) → k ≡ confOf m → k .directories ≤ 31
-  directories-few k e = let n = numbers-of m (g .fine) in rw (e ∙ conf-of m) (omega (arith, n .few-directories))
+  directories-few k e = omega (arith, numbers-of m (g .fine) k e .few-directories)
 
   -- it replies to the sender alone, or tells every directory
-  pub replica-few : (k : Conf) (es : List Entry) (p : Post) → k ≡ confOf m → p ≡ replicaPost (k .directories) es x → p .to < 2 ^ 16
+  pub replica-few : (k : Conf) (es : List Entry) (p : Post) → k ≡ confOf m → p ≡ replicaPost (k .directories) es x → Sends p
   unfolding replicaPost
   replica-few k es p c e =
-      let h : only (x .sender) < 2 ^ 16 = only-lt 16 (x .sender) (omega (arith, g .few)) in
-      let n = numbers-of m (g .fine) in
-      let l : k .directories ≤ 16 = rw (c ∙ conf-of m) (omega (arith, n .few-directories)) in
-      let d : all (k .directories) < 2 ^ 16 = below-two (k .directories) 16 (all (k .directories)) (all-lt (k .directories)) l in
+      let h : Small (only (x .sender)) = only-lt 16 (x .sender) (omega (arith, g .few)) in
+      let d : Small (all (k .directories)) = all-small (k .directories) (omega (arith, numbers-of m (g .fine) k c .few-directories)) in
       rw e
-      (if-ind few (eqb (x .kind) 9) (λ _. h)
-      (λ _. if-ind few (eqb (x .kind) 10) (λ _. h)
-      (λ _. if-ind few (eqb (x .kind) 15) (λ _. d) (λ _. omega arith))))
-    where
-      few : Post → Type 0
-      few p = p .to < 2 ^ 16
+      (if-ind Sends (eqb (x .kind) 9) (λ _. h)
+      (λ _. if-ind Sends (eqb (x .kind) 10) (λ _. h)
+      (λ _. if-ind Sends (eqb (x .kind) 15) (λ _. d) (λ _. omega arith))))
 
   -- the test of 23, said of the receiver's row
   over : (b : Bool) → isOverfull (machineOf m) x ≡ b → isOverfull (machineOf m) (slotAt (machineOf m) (suc s)) ≡ b

@@ -1,10 +1,12 @@
--- A step that empties no slot: whether there is room for what it sends.
-use mathlib.Core.Path.{_≡_, sym, _∙_}
-use mathlib.Core.Bool.{Bool, true, false, not}
-use Prim.Native.Nat.{_+_, _^_, _<_}
+-- Whether there is room for what a step sends.
+use mathlib.Core.Path.{_≡_}
+use mathlib.Core.Bool.{Bool, not}
+use Prim.Native.Nat.{ℕ, _+_, _^_, _≤_, _<_}
+use native.Mathlib.Nat.{add-zero}
+use native.Mathlib.Decide.{decLe}
 use native.Mathlib.Omega.{arith}
-use borrow.Author.Tests.{not-true, not-false, leb-true, leb-false, lt-ltb, le-ltb}
-use lib.Dec.{leb}
+use borrow.Author.Tests.{le-leb, lt-leb, lt-ltb, le-ltb}
+use lib.Dec.{leb, ltb}
 use Rattle.sets.specs.Sets.{size}
 use Rattle.tables.specs.Tables.{Machine}
 use Rattle.rules.specs.declared.Post.{Post}
@@ -14,14 +16,14 @@ use Rattle.machine.specs.Calls.{done}
 use Rattle.machine.specs.Refusals.{noSlot}
 use Rattle.machine.proofs.Places.{length-messages}
 
--- b tells whether there is
-module _ (M : Machine) (change : Change) (p : Post) (few : p .to < 2 ^ 16) (b : Bool) (e : b ≡ leb (size (p .to)) (emptySlots (M .slots) + 0)) where
-  pub no-room : not b ≡ true → noSlot M (done change p) ≡ true
-  no-room h =
-      rw (length-messages p few)
-      (lt-ltb (emptySlots (M .slots)) (size (p .to)) (omega (arith, leb-false (size (p .to)) (emptySlots (M .slots) + 0) (sym e ∙ not-true b h))))
+pub too-few : (e n : ℕ) → ltb e n ≡ not (leb n e)
+too-few e n = go (decLe n e)
+  where
+    go : Dec (n ≤ e) → ltb e n ≡ not (leb n e)
+    go (yes h) = rw (le-ltb e n h, le-leb n e h)
+    go (no h) = rw (lt-ltb e n (omega arith), lt-leb n e (omega arith))
 
-  pub has-room : not b ≡ false → noSlot M (done change p) ≡ false
-  has-room h =
-      rw (length-messages p few)
-      (le-ltb (emptySlots (M .slots)) (size (p .to)) (omega (arith, leb-true (size (p .to)) (emptySlots (M .slots) + 0) (sym e ∙ not-false b h))))
+-- b tells whether there is
+pub no-slot : (M : Machine) (change : Change) (p : Post) → p .to < 2 ^ 16 → (b : Bool) → b ≡ leb (size (p .to)) (emptySlots (M .slots) + 0)
+    → noSlot M (done change p) ≡ not b
+no-slot M change p few b e = rw (length-messages p few, e, add-zero (emptySlots (M .slots))) (too-few (emptySlots (M .slots)) (size (p .to)))

@@ -10,9 +10,11 @@ use lib.Seq.{set-out}
 use Rattle.sets.proofs.Digits.{half-lt}
 use Rattle.sets.proofs.Members.{halves, halves-in, halves-out, halves-none, members-halves}
 use Rattle.tables.specs.declared.Message.{Message}
-use Rattle.tables.specs.Rows.{before, putFirst}
+use Rattle.tables.specs.Rows.{putFirst}
+use Rattle.tables.specs.Inner.{before}
 use Rattle.tables.specs.Tables.{Machine, withSlots, withSlot, isEmpty}
-use Rattle.tables.specs.Words.{words, machineOf}
+use Rattle.tables.specs.Words.{words}
+use Rattle.tables.specs.Machines.{machineOf}
 use Rattle.tables.proofs.All.{none, cons}
 use Rattle.tables.proofs.Lists.{putFirst-set}
 use Rattle.tables.proofs.Read.{slots-many}
@@ -22,7 +24,7 @@ use Rattle.tables.proofs.Holds.{Holds, holds-start, holds-machine, holds-rest, 
 use Rattle.rules.specs.declared.Post.{Post}
 use Rattle.rules.specs.Posts.{toReceiver, messagesOf}
 use Rattle.machine.specs.Slots.{placed}
-use Rattle.machine.proofs.Places.{Pages, pages-messages, whole-placed}
+use Rattle.machine.proofs.Places.{Pages, whole-placed}
 
 -- the buffer with these messages entered
 pub sent : List ℕ → List Message → List ℕ
@@ -43,15 +45,10 @@ module _ (m : List ℕ) (x : Message) (s : ℕ) (e : s ≡ 0 + before isEmpty (m
 -- ---- a run of messages
 module _ {m : List ℕ} {M : Machine} {t : List ℕ} (h : Holds m M t) where
   -- the buffer after a run of messages
-  pub holds-placed : (xs : List Message) (l : List ℕ) → Pages xs → l ≡ words (withSlots (machineOf m) (placed xs (machineOf m .slots))) (drop 4992 m)
+  holds-placed : (xs : List Message) (l : List ℕ) → Pages xs → l ≡ words (withSlots (machineOf m) (placed xs (machineOf m .slots))) (drop 4992 m)
       → Holds l (withSlots M (placed xs (M .slots))) t
   holds-placed xs l q e =
       holds-step h (λ N. withSlots N (placed xs (N .slots))) l e (whole-placed (h .whole) xs (M .slots) q (h .whole .slots) (h .whole .slot-pages))
-
-  pub holds-sent : (y : Post) (l : List ℕ) → Paged (y .message .page)
-      → l ≡ words (withSlots (machineOf m) (placed (messagesOf y) (machineOf m .slots))) (drop 4992 m)
-      → Holds l (withSlots M (placed (messagesOf y) (M .slots))) t
-  holds-sent y l p e = holds-placed (messagesOf y) l (pages-messages y p) e
 
 -- ---- the loop: what is left to send, x to each from p on in the set `rest`, ends where the whole does
 abbrev pub toEach : Message → ℕ → ℕ → List Message

@@ -7,26 +7,22 @@ use native.Mathlib.Omega.{arith}
 use borrow.Author.Tests.{not-true, not-false, ne-eqb, ltb-false}
 use lib.Dec.{leb, ltb, eqb}
 use lib.ListN.{length, drop}
-use lib.Pow.{pow-mono}
-use Rattle.sets.specs.Choice.{if_then_else_}
-use Rattle.sets.specs.Sets.{size, all}
-use Rattle.sets.proofs.Laws.{all-lt}
-use Rattle.sets.proofs.Tests.{if-ind}
+use Rattle.sets.specs.Plain.{if_then_else_}
+use Rattle.sets.specs.Sets.{size}
 use Rattle.tables.specs.declared.Conf.{Conf}
 use Rattle.tables.specs.declared.Client.{Client}
 use Rattle.tables.specs.declared.Party.the-variants.{AClient}
 use Rattle.tables.specs.Tables.{Page, Machine, noPage, clientAt, withClient, withSlots}
-use Rattle.tables.specs.Words.{confOf, words, machineOf}
-use Rattle.tables.proofs.Round.{words-back}
+use Rattle.tables.specs.Words.{words}
+use Rattle.tables.specs.Machines.{confOf, machineOf}
 use Rattle.tables.proofs.Whole.{wholeOf, whole-client}
 use Rattle.tables.proofs.Holds.{Holds, holds-machine, holds-rest}
-use Rattle.inspect.specs.Good.{between, isParty, goodNumbers}
+use Rattle.inspect.specs.Good.{between, isParty}
 use Rattle.inspect.proofs.Facts.{numbers-facts}
 use Rattle.rules.specs.declared.Answer.{Answer}
 use Rattle.rules.specs.declared.Post.{Post}
 use Rattle.rules.specs.Answers.{coded}
 use Rattle.rules.specs.Client.{started, request}
-use Rattle.rules.specs.Inner.{Few}
 use Rattle.rules.specs.Posts.{messagesOf}
 use Rattle.machine.specs.Slots.{placed, emptySlots}
 use Rattle.machine.specs.Effects.{Effect, client, applied}
@@ -34,8 +30,11 @@ use Rattle.machine.specs.Calls.{startRead, startWrite, done, startEffect
 use Rattle.machine.specs.Refusals.{refusal, noSlot}
 use Rattle.machine.specs.Steps.{Result, refused, effectOf, step}
 use Rattle.machine.specs.Inner.{Ready, Took, Launches, standing, launchStep, startStep}
-use Rattle.machine.proofs.Parties.{party-low, party-row, own-party, ready-numbers, client-place}
-use Rattle.machine.proofs.Rooms.{no-room, has-room}
+use Rattle.machine.proofs.Arrivals.{conf-of}
+use Rattle.machine.proofs.Parties.{party-low, party-row, own-party, ready-numbers, numbers-of, client-place}
+use Rattle.machine.proofs.Rooms.{no-slot}
+use Rattle.machine.proofs.Addressed.{request-few}
+use Rattle.machine.proofs.Steps.{took-nothing}
 
 pub start-read : (c : ℕ) (M : Machine) → step (startRead c) M ≡ startStep M c 1 noPage
 unfolding step effectOf startStep
@@ -45,39 +44,18 @@ pub start-write : (c : ℕ) (page : Page) (M : Machine) → step (startWrite c p
 unfolding step effectOf startStep refusal
 start-write c page M = refl
 
--- ---- what is sent
-
-pub few-sets : (k : Conf) → goodNumbers k ≡ true → Few k
-few-sets k g = let n = numbers-facts k g in record { directories = omega arith; replicas = omega arith }
-
-pub request-few : (k : Conf) (own : ℕ) (w : Client) → goodNumbers k ≡ true → w .replicas < 2 ^ 16 → request k own w .to < 2 ^ 16
-unfolding request
-request-few k own w g h =
-    let n = numbers-facts k g in
-    let d : all (k .directories) < 2 ^ 16 = omega (arith, all-lt (k .directories), pow-mono {i = k .directories} {j = 16} (omega arith)) in
-    let r : all (k .replicas) < 2 ^ 16 = omega (arith, all-lt (k .replicas), pow-mono {i = k .replicas} {j = 16} (omega arith)) in
-    if-ind P (eqb (w .phase) 1) (λ _. d)
-    (λ _. if-ind P (eqb (w .phase) 2) (λ _. d)
-    (λ _. if-ind P (eqb (w .phase) 3) (λ _. h)
-    (λ _. if-ind P (eqb (w .phase) 4) (λ _. d)
-    (λ _. if-ind P (eqb (w .phase) 5) (λ _. r)
-    (λ _. if-ind P (eqb (w .phase) 6) (λ _. d) (λ _. omega arith))))))
-  where
-    P : Post → Type 0
-    P y = y .to < 2 ^ 16
-
 -- ---- the row written and the request sent
 
 module _ (m : List ℕ) (k : Conf) (c : ℕ) (y : Client) (g : Launches m k c y) (p : Post) (s : p ≡ request k c y) where
   pub launch-few : p .to < 2 ^ 16
-  launch-few = rw s (request-few k c y (g .numbers) (g .set))
+  launch-few = rw s (request-few k (numbers-facts k (g .numbers)) c y (g .set))
 
   -- r tells whether there is room
   module _ (a : Answer) (r : Bool) (x : r ≡ leb (size (p .to)) (emptySlots (machineOf m .slots) + 0)) where
     pub launch-full : not r ≡ true → a ≡ coded 24 → Took (launchStep (machineOf m) k c y) a [] m m
     unfolding launchStep
     launch-full z q =
-        rw (← s, no-room (machineOf m) (client c y) p launch-few r x z) (record { answer = q; page = refl; buffer = sym (words-back m (g .ready .long)) })
+        rw (← s, no-slot (machineOf m) (client c y) p launch-few r x, z) (took-nothing m [] 24 a (g .ready .long) q)
 
     pub launched : (l n : List ℕ) → length (y .page) ≡ 16 → not r ≡ false → a ≡ coded 0 → l ≡ words (withClient (machineOf m) (suc (c - 1)) y) (drop 4992 m)
         → n ≡ words (withSlots (machineOf l) (placed (messagesOf p) (machineOf l .slots))) (drop 4992 l)
@@ -88,9 +66,8 @@ module _ (m : List ℕ) (k : Conf) (c : ℕ) (y : Client) (g : Launches m k c y)
         let held : Holds l (withClient (machineOf m) c y) (drop 4992 m) =
         record { is = t ∙ ap (λ (i : ℕ). words (withClient (machineOf m) i y) (drop 4992 m)) row; whole = whole-client (wholeOf m (g .ready .long)) c y w } in
         let after : n ≡ words (withSlots (withClient (machineOf m) c y) (placed (messagesOf p) (machineOf m .slots))) (drop 4992 m) =
-        u ∙ ap (λ (N : Machine). words (withSlots N (placed (messagesOf p) (N .slots))) (drop 4992 l)) (holds-machine held)
-        ∙ ap (λ (q : List ℕ). words (withSlots (withClient (machineOf m) c y) (placed (messagesOf p) (machineOf m .slots))) q) (holds-rest held) in
-        rw (← s, has-room (machineOf m) (client c y) p launch-few r x z) (record { answer = q; page = refl; buffer = after })
+        u ∙ rw (holds-machine held, holds-rest held) in
+        rw (← s, no-slot (machineOf m) (client c y) p launch-few r x, z) (record { answer = q; page = refl; buffer = after })
 
 -- ---- the ways out of a start
 
@@ -105,14 +82,14 @@ not-worn k w = go (eqb (w .down) 1) (not (eqb (w .phase) 0)) (ltb (k .top) (w .n
     go false false false e q = ltb-false (k .top) (w .number + 3) e
 
 pub start-able : (m : List ℕ) (g : Ready m) (k : Conf) (w : Client) (s : ℕ) → k ≡ confOf m → s ≡ standing k w → s ≡ 0 → w .number < 4294967295
-start-able m g k w s at j z = omega (arith, not-worn k w (sym j ∙ z), numbers-facts k (ready-numbers m g k at) .top-fits)
+start-able m g k w s at j z = omega (arith, not-worn k w (sym j ∙ z), numbers-of m (g .fine) k at .top-fits)
 
 pub launchable : (m : List ℕ) (g : Ready m) (c phase : ℕ) (page : Page) (k : Conf) (w y : Client) (b : Bool) → k ≡ confOf m → b ≡ between 1 (k .clients) c
     → not b ≡ false → y ≡ started w phase page → Launches m k c y
 launchable m g c phase page k w y b at e h v =
     record {
       ready = g;
-      numbers = ready-numbers m g k at;
+      numbers = ready-numbers m (g .fine) k at;
       low = party-low c (k .clients) b e h;
       high = omega (arith, client-place m g k at c b h e);
       set = rw v (omega arith);
@@ -121,15 +98,14 @@ launchable m g c phase page k w y b at e h v =
 -- b tells whether c is a client
 module _ (m : List ℕ) (g : Ready m) (c phase : ℕ) (page : Page) (k : Conf) (at : k ≡ confOf m) (b : Bool) (e : b ≡ between 1 (k .clients) c) (a : Answer) where
   conf-is : machineOf m .conf ≡ k
-  unfolding machineOf
-  conf-is = sym at
+  conf-is = sym (at ∙ conf-of m)
 
   party-is : isParty (machineOf m .conf) AClient c ≡ b
   party-is = own-party m k at AClient c b e
 
   pub start-out : not b ≡ true → a ≡ coded 18 → Took (startStep (machineOf m) c phase page) a [] m m
   unfolding startStep refusal
-  start-out h q = rw (party-is, not-true b h) (record { answer = q; page = refl; buffer = sym (words-back m (g .long)) })
+  start-out h q = rw (party-is, not-true b h) (took-nothing m [] 18 a (g .long) q)
 
   -- w is its row, s what keeps it from starting
   module _ (h : not b ≡ false) (w : Client) (f : w ≡ clientAt (machineOf m) (suc (c - 1))) (s : ℕ) (j : s ≡ standing k w) where
@@ -164,7 +140,7 @@ module _ (m : List ℕ) (g : Ready m) (c phase : ℕ) (page : Page) (k : Conf) (
 
     pub start-stopped : (s ≡ 0 → ⊥) → a ≡ coded s → Took (startStep (machineOf m) c phase page) a [] m m
     unfolding startStep
-    start-stopped z q = rw (code-is, ne-eqb s 0 z) (rw (ne-eqb s 0 z) (record { answer = q; page = refl; buffer = sym (words-back m (g .long)) }))
+    start-stopped z q = rw (code-is, ne-eqb s 0 z) (rw (ne-eqb s 0 z) (took-nothing m [] s a (g .long) q))
 
     -- what is left of the step, by its effect
     abbrev rest : Effect → Result

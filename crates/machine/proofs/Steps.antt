@@ -4,12 +4,14 @@ use mathlib.Core.Bool.{Bool, true, false, not, _||_}
 use mathlib.Core.List.{List}
 use Prim.Native.Nat.{ℕ, _≤_}
 use native.Mathlib.Omega.{arith}
-use borrow.Author.Tests.{ne-eqb, eqb-true, ltb-false, not-false}
-use lib.Dec.{ltb, eqb}
+use borrow.Author.Tests.{ne-eqb}
+use lib.Dec.{T, ltb, eqb, nltb→le, eqb→eq}
 use lib.ListN.{length, drop}
-use Rattle.sets.specs.Choice.{if_then_else_}
+use Rattle.sets.specs.Plain.{if_then_else_}
+use Rattle.sets.proofs.Tests.{false-T, not-not, neither}
 use Rattle.tables.specs.Tables.{Machine}
-use Rattle.tables.specs.Words.{words, machineOf}
+use Rattle.tables.specs.Words.{words}
+use Rattle.tables.specs.Machines.{machineOf}
 use Rattle.tables.proofs.Round.{words-back}
 use Rattle.inspect.specs.Good.{good}
 use Rattle.rules.specs.declared.Answer.{Answer}
@@ -26,19 +28,22 @@ module _ (c : Call) (M : Machine) where
   abbrev pub taken : Result
   taken = let e : Effect = effectOf c M in record { answer = e .answer; page = e .page; machine = accepted c M e }
 
-  pub step-refused : (code : ℕ) → (code ≡ 0 → ⊥) → refusal c M (effectOf c M) ≡ code → step c M ≡ refused code (pageIn c) M
+  step-refused : (code : ℕ) → (code ≡ 0 → ⊥) → refusal c M (effectOf c M) ≡ code → step c M ≡ refused code (pageIn c) M
   unfolding step
   step-refused code z e = rw (e, ne-eqb code 0 z)
 
-  pub step-accepted : refusal c M (effectOf c M) ≡ 0 → step c M ≡ taken
+  step-accepted : refusal c M (effectOf c M) ≡ 0 → step c M ≡ taken
   unfolding step
   step-accepted e = rw e
 
 -- ---- the buffer of a step that was refused, and of one that was taken
+pub took-nothing : (m p : List ℕ) (code : ℕ) (a : Answer) → 4992 ≤ length m → a ≡ coded code → Took (refused code p (machineOf m)) a p m m
+took-nothing m p code a l h = record { answer = h; page = refl; buffer = sym (words-back m l) }
+
 pub took-refused : (c : Call) (m : List ℕ) (code : ℕ) (a : Answer) → 4992 ≤ length m → (code ≡ 0 → ⊥)
     → refusal c (machineOf m) (effectOf c (machineOf m)) ≡ code → a ≡ coded code → Took (step c (machineOf m)) a (pageIn c) m m
 took-refused c m code a l z e h =
-    rw (step-refused c (machineOf m) code z e) (record { answer = h; page = refl; buffer = sym (words-back m l) })
+    rw (step-refused c (machineOf m) code z e) (took-nothing m (pageIn c) code a l h)
 
 pub took-accepted : (c : Call) (m n p : List ℕ) (a : Answer) → refusal c (machineOf m) (effectOf c (machineOf m)) ≡ 0
     → a ≡ taken c (machineOf m) .answer → p ≡ taken c (machineOf m) .page → n ≡ words (taken c (machineOf m) .machine) (drop 4992 m)
@@ -48,42 +53,43 @@ took-accepted c m n p a e h g k = rw (step-accepted c (machineOf m) e) (record {
 -- ---- SIZE, BAD MACHINE, and then the step; s is the state of a buffer whose call has a page of n words
 
 -- 0 is neither
-neither : (b g : Bool) → _≡_ {A = ℕ} (if b then 16 else if not g then 17 else 0) 0 → (b ≡ false) × (g ≡ true)
-neither true g e = absurd (omega arith)
-neither false true e = (refl, refl)
-neither false false e = absurd (omega arith)
+no-code : (b g : Bool) → _≡_ {A = ℕ} (if b then 16 else if not g then 17 else 0) 0 → (b ≡ false) × (g ≡ true)
+no-code true g e = absurd (omega arith)
+no-code false true e = (refl, refl)
+no-code false false e = absurd (omega arith)
 
-first-of : (b d : Bool) → b || d ≡ false → b ≡ false
-first-of true d e = e
-first-of false d e = refl
+-- long enough, and a page of 16 words
+module _ (m : List ℕ) (n : ℕ) (h : ltb (length m) 4992 || not (eqb n 16) ≡ false) where
+  right : T (not (ltb (length m) 4992)) × T (not (not (eqb n 16)))
+  right = neither (ltb (length m) 4992) (not (eqb n 16)) (false-T _ h)
 
-second-of : (b d : Bool) → b || d ≡ false → d ≡ false
-second-of true true e = e
-second-of true false e = refl
-second-of false d e = e
+  pub long-enough : 4992 ≤ length m
+  long-enough = nltb→le (length m) 4992 (right .0)
+
+  pub page-whole : n ≡ 16
+  page-whole = eqb→eq n 16 (not-not (eqb n 16) (right .1))
 
 module _ (m : List ℕ) (n s : ℕ) (e : s ≡ stateOf m n) where
   both : s ≡ 0 → (ltb (length m) 4992 || not (eqb n 16) ≡ false) × (good m ≡ true)
   unfolding stateOf
-  both z = neither (ltb (length m) 4992 || not (eqb n 16)) (good m) (sym e ∙ z)
+  both z = no-code (ltb (length m) 4992 || not (eqb n 16)) (good m) (sym e ∙ z)
 
   pub is-ready : s ≡ 0 → Ready m
-  is-ready z =
-      record { long = ltb-false (length m) 4992 (first-of (ltb (length m) 4992) (not (eqb n 16)) (both z .0)); fine = both z .1 }
+  is-ready z = record { long = long-enough m n (both z .0); fine = both z .1 }
 
   pub is-sixteen : s ≡ 0 → n ≡ 16
-  is-sixteen z = eqb-true n 16 (not-false (eqb n 16) (second-of (ltb (length m) 4992) (not (eqb n 16)) (both z .0)))
+  is-sixteen z = page-whole m n (both z .0)
 
   module _ (c : Call) (w : wrongPage c ≡ not (eqb n 16)) (k : asksMachine c ≡ true) where
-    pub call-refused : (a : Answer) → (s ≡ 0 → ⊥) → a ≡ coded s → Gives (call c m) a (pageIn c) m
+    pub call-refused : (a : Answer) (p : List ℕ) → pageIn c ≡ p → (s ≡ 0 → ⊥) → a ≡ coded s → Gives (call c m) a p m
     unfolding call stateOf
-    call-refused a z h = rw (w, k) (go (ltb (length m) 4992 || not (eqb n 16)) (good m) e)
+    call-refused a p x z h = rw (w, k) (go (ltb (length m) 4992 || not (eqb n 16)) (good m) e)
       where
         go : (b g : Bool) → s ≡ (if b then 16 else if not g then 17 else 0)
             → Gives (if b then left (coded 16) (pageIn c) m else if not g then left (coded 17) (pageIn c) m else left (step c (machineOf m) .answer) (step c (machineOf m) .page) (words (step c (machineOf m) .machine) (drop 4992 m)))
-            a (pageIn c) m
-        go true g q = record { answer = h ∙ ap coded q; page = refl; buffer = refl }
-        go false false q = record { answer = h ∙ ap coded q; page = refl; buffer = refl }
+            a p m
+        go true g q = record { answer = h ∙ ap coded q; page = sym x; buffer = refl }
+        go false false q = record { answer = h ∙ ap coded q; page = sym x; buffer = refl }
         go false true q = absurd (z q)
 
     pub call-taken : (a : Answer) (p l : List ℕ) → s ≡ 0 → Took (step c (machineOf m)) a p m l → Gives (call c m) a p l

@@ -1,13 +1,8 @@
 -- A call on a lent buffer: SIZE, BAD MACHINE, and then the step on the machine of its words. "Later words are never written."
-use mathlib.Core.Bool.{Bool, true, false, _&&_, _||_, not}
-use mathlib.Core.List.{List}
-use mathlib.Core.Path.{_≡_}
-use Prim.Native.Nat.{ℕ}
-use lib.Dec.{ltb, eqb}
-use lib.ListN.{length, drop}
-use Rattle.sets.specs.Choice.{if_then_else_}
+use Rattle.sets.specs.Plain.{Bool, true, false, not, _&&_, _||_, _≡_, ℕ, ltb, eqb, List, length, drop, if_then_else_}
 use Rattle.tables.specs.Tables.{Page}
-use Rattle.tables.specs.Words.{words, machineOf}
+use Rattle.tables.specs.Words.{words}
+use Rattle.tables.specs.Machines.{machineOf}
 use Rattle.inspect.specs.Good.{good}
 use Rattle.rules.specs.declared.Answer.{Answer}
 use Rattle.rules.specs.Answers.{coded}

@@ -1,9 +1,5 @@
 -- The calls, and the effect of each but deliver and set-up.
-use mathlib.Core.Bool.{Bool}
-use mathlib.Core.List.{List, []}
-use Prim.Native.Nat.{ℕ}
-use lib.Dec.{eqb}
-use Rattle.sets.specs.Choice.{if_then_else_}
+use Rattle.sets.specs.Plain.{Bool, ℕ, eqb, [], if_then_else_}
 use Rattle.tables.specs.declared.Conf.{Conf}
 use Rattle.tables.specs.declared.Client.{Client}
 use Rattle.tables.specs.declared.Directory.{Directory}
@@ -70,14 +66,11 @@ downClient w =
 abbrev pub downDirectory : Directory → Directory
 downDirectory d = record { down = 1; tag = d .tag; set = d .set }
 
-abbrev pub downReplica : Replica → Replica
-downReplica r = record { down = 1; entries = r .entries }
-
 abbrev pub downed : Machine → Party → ℕ → Change
 downed M Nobody p = nothing
 downed M AClient p = client p (downClient (clientAt M p))
 downed M ADirectory p = directory p (downDirectory (directoryAt M p))
-downed M AReplica p = replica p (downReplica (replicaAt M p))
+downed M AReplica p = replica p (record { down = 1; entries = replicaAt M p .entries })
 
 unfoldable pub crashEffect : Machine → ℕ → ℕ → Effect
 crashEffect M kind id = done (downed M (partyOf kind) id) noPost

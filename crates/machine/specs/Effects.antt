@@ -1,13 +1,11 @@
 -- What an accepted call does: it empties slots, changes at most one row, sends one message to a set of receivers, and answers.
-use mathlib.Core.List.{List, [], _∷_}
-use Prim.Native.Nat.{ℕ}
+use Rattle.sets.specs.Plain.{ℕ, List}
 use Rattle.tables.specs.declared.Client.{Client}
 use Rattle.tables.specs.declared.Directory.{Directory}
 use Rattle.tables.specs.Tables.{Page, Replica, Machine, withClient, withDirectory, withReplica, withSlots}
 use Rattle.rules.specs.declared.Post.{Post}
 use Rattle.rules.specs.declared.Answer.{Answer}
-use Rattle.rules.specs.Posts.{noPost, messagesOf}
-use Rattle.rules.specs.Answers.{coded}
+use Rattle.rules.specs.Posts.{messagesOf}
 use Rattle.machine.specs.Slots.{placed, freed}
 
 pub data Change : Type 0 where

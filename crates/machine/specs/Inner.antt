@@ -5,7 +5,7 @@ use mathlib.Core.Path.{_≡_}
 use Prim.Native.Nat.{ℕ, suc, _+_, _^_, _≤_, _<_, zero, _*_}
 use lib.Dec.{leb, ltb, eqb}
 use lib.ListN.{length, drop, set, getD, replicate}
-use Rattle.sets.specs.Choice.{if_then_else_}
+use Rattle.sets.specs.Plain.{if_then_else_}
 use Rattle.sets.specs.Sets.{size}
 use Rattle.tables.specs.declared.Conf.{Conf}
 use Rattle.tables.specs.declared.Client.{Client}
@@ -14,7 +14,8 @@ use Rattle.tables.specs.declared.Message.{Message}
 use Rattle.tables.specs.declared.Party.{Party}
 use Rattle.tables.specs.declared.Party.the-variants.{Nobody, AClient, ADirectory, AReplica}
 use Rattle.tables.specs.Tables.{Page, Replica, Machine, noMessage, replicaAt, slotAt, withSlots, noClient, noDirectory, noReplica, withReplica}
-use Rattle.tables.specs.Words.{words, machineOf}
+use Rattle.tables.specs.Words.{words}
+use Rattle.tables.specs.Machines.{machineOf, rowsOf}
 use Rattle.tables.specs.Kinds.{receiverOf, manyOf}
 use Rattle.inspect.specs.Good.{good, between, goodNumbers}
 use Rattle.rules.specs.declared.Answer.{Answer}
@@ -29,7 +30,7 @@ use Rattle.machine.specs.Effects.{Change, changed, Effect, client, appli
 use Rattle.machine.specs.Calls.{deliver, startRead, done, startEffect}
 use Rattle.machine.specs.Steps.{Result, step, refused, waiting, partiesDown}
 use Rattle.tables.specs.declared.Directory.{Directory}
-use Rattle.tables.specs.Rows.{rowsOf, withRow}
+use Rattle.tables.specs.Rows.{withRow}
 use Rattle.tables.specs.Phases.{isIdle}
 use Rattle.rules.specs.Replica.{tidied}
 use Rattle.machine.specs.Refusals.{noSlot, refusal}

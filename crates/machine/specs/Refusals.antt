@@ -1,16 +1,8 @@
 -- The table of codes, 18 to 24: one test for each line, in one ordered list. "The lowest that applies is given, and none is given otherwise."
-use mathlib.Core.Bool.{Bool, false, not, _&&_, _||_}
-use mathlib.Core.List.{List, [], _∷_}
-use Prim.Native.Nat.{ℕ, _+_}
-use lib.Dec.{ltb, eqb}
-use lib.ListN.{length}
-use Rattle.sets.specs.Choice.{if_then_else_}
-use Rattle.tables.specs.declared.Conf.{Conf}
+use Rattle.sets.specs.Plain.{Bool, false, not, _&&_, _||_, ℕ, _+_, ltb, eqb, List, [], _∷_, length, if_then_else_}
 use Rattle.tables.specs.declared.Message.{Message}
-use Rattle.tables.specs.declared.Party.{Party}
-use Rattle.tables.specs.declared.Party.the-variants.{AClient, ADirectory, AReplica}
-use Rattle.tables.specs.Tables.{Page, Machine, clientAt, replicaAt, slotAt, isEmpty}
-use Rattle.tables.specs.Kinds.{receiverOf}
+use Rattle.tables.specs.declared.Party.the-variants.{AClient, AReplica}
+use Rattle.tables.specs.Tables.{Machine, clientAt, replicaAt, slotAt, isEmpty}
 use Rattle.tables.specs.Phases.{isIdle}
 use Rattle.inspect.specs.Good.{between, goodNumbers, isParty}
 use Rattle.rules.specs.Posts.{messagesOf}
@@ -84,28 +76,20 @@ isOverfull M x = not (isDown M AReplica (x .receiver)) && isFull (replicaAt M (x
 abbrev pub noSlot : Machine → Effect → Bool
 noSlot M e = ltb (emptySlots (freed (e .emptied) (M .slots))) (length (messagesOf (e .post)))
 
--- a code and when it is given
-pub record Test : Type 0 where
-  pub code : ℕ
-  pub applies : Bool
-
-abbrev pub test : ℕ → Bool → Test
-test code applies = record { code = code; applies = applies }
-
 -- the code of the first test that applies, 0 where none does
-abbrev pub firstOf : List Test → ℕ
+abbrev pub firstOf : List (ℕ × Bool) → ℕ
 firstOf [] = 0
-firstOf (t ∷ ts) = if t .applies then t .code else firstOf ts
+firstOf (t ∷ ts) = if t .1 then t .0 else firstOf ts
 
 -- the effect is the one that the call would have
 unfoldable pub refusal : Call → Machine → Effect → ℕ
 refusal c M e =
     firstOf (
-    test 18 (badArgument c M)
-    ∷ test 19 (downParty c M)
-    ∷ test 20 (starts c M isBusy)
-    ∷ test 21 (starts c M isWorn)
-    ∷ test 22 (delivers c M isVoid)
-    ∷ test 23 (delivers c M isOverfull)
-    ∷ test 24 (noSlot M e)
+    (18, badArgument c M)
+    ∷ (19, downParty c M)
+    ∷ (20, starts c M isBusy)
+    ∷ (21, starts c M isWorn)
+    ∷ (22, delivers c M isVoid)
+    ∷ (23, delivers c M isOverfull)
+    ∷ (24, noSlot M e)
     ∷ [])

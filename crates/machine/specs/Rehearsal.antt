@@ -5,13 +5,11 @@ use Prim.Native.Nat.{ℕ}
 use lib.Count.{ones, onesIn}
 use lib.Dec.{eqb}
 use lib.ListN.{getD, replicate}
-use Rattle.sets.specs.Choice.{if_then_else_}
+use Rattle.sets.specs.Plain.{if_then_else_}
 use Rattle.sets.specs.Tags.{against}
-use Rattle.tables.specs.declared.Conf.{Conf}
 use Rattle.tables.specs.Kinds.{senderOf, receiverOf}
 use Rattle.tables.specs.Tables.{Page, Machine, noPage, noClient, noDirectory, noEntry, noReplica, noMessage}
-use Rattle.tables.specs.Rows.{rowsOf}
-use Rattle.tables.specs.Words.{confOf, clientOf, directoryOf, entryOf, messageOf, entriesOf, replicasOf, machineOf}
+use Rattle.tables.specs.Machines.{rowsOf, confOf, clientOf, directoryOf, entryOf, messageOf, entriesOf, replicasOf, machineOf}
 use Rattle.inspect.specs.Good.{goodNumbers}
 use Rattle.rules.specs.Posts.{messagesOf}
 use Rattle.rules.specs.Quorums.{enoughToRead, enoughToWrite}

@@ -1,7 +1,6 @@
 -- "All messages of a step enter together, in order of receiver, each into the lowest empty slot.
 -- A delivered message's slot is empty before the replies are placed, and is used again."
-use mathlib.Core.List.{List, [], _∷_}
-use Prim.Native.Nat.{ℕ}
+use Rattle.sets.specs.Plain.{ℕ, List, [], _∷_}
 use Rattle.tables.specs.declared.Message.{Message}
 use Rattle.tables.specs.Rows.{withRow, count, putFirst}
 use Rattle.tables.specs.Tables.{noMessage, isEmpty}

@@ -1,10 +1,5 @@
 -- A step: the first refusal that applies, else the call's effect. "Codes 16 to 24 change nothing."
-use mathlib.Core.Bool.{Bool, not}
-use mathlib.Core.List.{List, [], _∷_, map}
-use Prim.Native.Nat.{ℕ, _+_}
-use lib.Dec.{leb, eqb}
-use lib.ListN.{replicate}
-use Rattle.sets.specs.Choice.{if_then_else_, numbers}
+use Rattle.sets.specs.Plain.{not, ℕ, _+_, leb, eqb, [], _∷_, map, replicate, if_then_else_, numbers}
 use Rattle.sets.specs.Tags.{first}
 use Rattle.sets.specs.Sets.{all}
 use Rattle.tables.specs.declared.Conf.{Conf}

@@ -3,7 +3,7 @@ ghost use mathlib.Core.Path.{_≡_};
 ghost use Prim.Native.Nat.{_≤_};
 ghost use lib.ListN.{length};
 ghost use Rattle.tables.specs.Rows.{count};
-ghost use Rattle.tables.specs.Words.{machineOf};
+ghost use Rattle.tables.specs.Machines.{machineOf};
 ghost use Rattle.machine.specs.Inner.{RowsIn, isOne, firstWords, counts};
 use crate::Counts;
 use tables::search;

@@ -98,7 +98,6 @@ pub fn crash(m: &mut [u32], kind: u32, id: u32) -> Answer
 }
 
 // Waiting messages and parties down.
-// Waiting messages and parties down.
 pub fn report(m: &[u32]) -> Counts
     ensures { λ r. ⌜ r ≡ reported (now (m .entry)) ⌝ }
 {

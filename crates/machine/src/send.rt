@@ -1,15 +1,15 @@
 // Messages enter the slots.
 ghost use mathlib.Core.Path.{_≡_};
-ghost use mathlib.Core.List.{[], _∷_};
 ghost use Prim.Native.Nat.{suc, _+_, _^_, _≤_, _<_};
 ghost use lib.Dec.{leb};
 ghost use lib.ListN.{length, drop};
 ghost use Rattle.sets.specs.Sets.{size};
 ghost use Rattle.tables.specs.Rows.{putFirst};
 ghost use Rattle.tables.specs.Tables.{withSlots, withSlot, noMessage, isEmpty};
-ghost use Rattle.tables.specs.Words.{words, machineOf};
+ghost use Rattle.tables.specs.Words.{words};
+ghost use Rattle.tables.specs.Machines.{machineOf};
 ghost use Rattle.rules.specs.Posts.{messagesOf};
-ghost use Rattle.machine.specs.Slots.{placed, freed, emptySlots};
+ghost use Rattle.machine.specs.Slots.{placed, emptySlots};
 use rules::Post;
 use tables::Message;
 use tables::places;
@@ -20,7 +20,11 @@ pub fn room(m: &[u32], more: usize, to: u32) -> bool
     requires { ⌜ (4992 ≤ length (now m)) × (more ≤ 1) ⌝ }
     ensures { λ r. ⌜ r ≡ leb (size to) (emptySlots (machineOf (now (m .entry)) .slots) + more) ⌝ }
 {
-    sets::size_of(to) as usize <= search::empty_slots(m) + more
+    let n = sets::size_of(to) as usize;
+    if n <= more {
+        return true;
+    }
+    n <= search::empty_slots(m) + more
 }
 
 // One message enters the lowest empty slot.

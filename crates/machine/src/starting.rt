@@ -1,7 +1,7 @@
 // Start read and start write.
 ghost use mathlib.Core.Path.{_≡_};
 ghost use mathlib.Core.List.{[]};
-ghost use Rattle.tables.specs.Words.{machineOf};
+ghost use Rattle.tables.specs.Machines.{machineOf};
 ghost use Rattle.machine.specs.Inner.{Ready, Took, Launches, standing, launchStep, startStep};
 use crate::send;
 use inspect::fields;

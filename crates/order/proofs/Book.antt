@@ -5,7 +5,7 @@ use mathlib.Core.Logic.{_⊎_}
 use Prim.Native.Nat.{ℕ, suc, max, _≤_, _<_}
 use lib.Dec.{T, T-not, eqb, eqb→eq, eqb-refl}
 use mathlib.Core.Bool.{Bool, true, false, not}
-use Rattle.sets.specs.Choice.{if_then_else_}
+use Rattle.sets.specs.Plain.{if_then_else_}
 use Rattle.sets.proofs.Tests.{and-elim, and-intro, if-ind}
 use Rattle.order.specs.Run.{_∈_, Page, Kind, reading, writing, Fate, running, ended, spent, left, Op, begun, Event, read-begins, write-begins, read-ends, write-ends, write-spent, gives-up, nothing, with-fate, with-page, open?, mine?, change, enter, Idle, OpenAs, Fits}
 use Rattle.order.proofs.Lists.{mem-of, mem-map, map-mem}

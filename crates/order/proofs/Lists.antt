@@ -4,7 +4,7 @@ use mathlib.Core.List.{nil≢cons, head-eq-of-cons-eq, tail-eq-of-cons-eq, List,
 use mathlib.Core.Bool.{Bool}
 use mathlib.Core.Logic.{_⊎_, inl, inr, ⊎-elim}
 use lib.Dec.{T, T-not}
-use Rattle.sets.specs.Choice.{if_then_else_}
+use Rattle.sets.specs.Plain.{if_then_else_}
 use Rattle.sets.proofs.Tests.{if-ind}
 use Rattle.order.specs.Run.{_∈_}
 

@@ -1,29 +1,9 @@
 -- WHAT A MACHINE KEEPS TO, call by call, for its runs to stand in one line.
 -- Every write has a rank, a number above 0 by which the writes are ordered; the first page has rank 0.
 use mathlib.Core.Path.{_≡_}
-use mathlib.Core.List.{List, [], _∷_}
 use mathlib.Core.Logic.{_⊎_}
 use Prim.Native.Nat.{ℕ, _≤_, _<_}
-use Rattle.order.specs.Run.{Page, Event, read-begins, write-begins, read-ends, write-ends, write-spent, gives-up, nothing}
-
--- ---- a machine and its runs
-
--- calls of type C on a state of type M: what a call leaves, what it shows its caller, and whether it is meant (an accepted set-up is not: it begins another run)
-pub record Calls (M C : Type 0) : Type 1 where
-  pub after : M → C → M
-  pub shows : M → C → Event
-  pub Meant : M → C → Type 0
-
-module _ {M C : Type 0} (A : Calls M C) where
-  -- the run of a list of calls
-  unfoldable pub events : M → List C → List Event
-  events m [] = []
-  events m (x ∷ xs) = A .shows m x ∷ events (A .after m x) xs
-
-  -- each call is meant, where it comes
-  unfoldable pub AllMeant : M → List C → Type 0
-  AllMeant m [] = Unit {0}
-  AllMeant m (x ∷ xs) = A .Meant m x × AllMeant (A .after m x) xs
+use Rattle.order.specs.Run.{Page, Event, Calls, read-begins, write-begins, read-ends, write-ends, write-spent, gives-up, nothing}
 
 -- ---- the method
 

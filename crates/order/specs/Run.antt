@@ -1,12 +1,6 @@
 -- THE THIRD DEMAND: what a run shows the callers, which operations it has, and what it is for them to stand in one line.
 -- Nothing here speaks of tags, directories or messages.
-use mathlib.Core.Path.{_≡_}
-use mathlib.Core.Bool.{Bool, true, false, _&&_}
-use mathlib.Core.List.{List, [], _∷_, _++_, map, List·Memᴰ}
-use mathlib.Core.Logic.{_⊎_}
-use Prim.Native.Nat.{ℕ, suc, _<_}
-use lib.Dec.{eqb}
-use Rattle.sets.specs.Choice.{if_then_else_}
+use Rattle.sets.specs.Plain.{Bool, true, false, _&&_, _≡_, _⊎_, ℕ, suc, _<_, eqb, List, [], _∷_, _++_, map, List·Memᴰ, if_then_else_}
 
 infix 4 _∈_
 abbrev pub _∈_ : {A : Type 0} → A → List A → Type 0
@@ -24,6 +18,25 @@ pub data Event : Type 0 where
   write-spent : (client : ℕ) → Event
   gives-up : (client : ℕ) → Event
   nothing : Event
+
+-- ---- the runs of a machine
+
+-- calls of type C on a state of type M: what a call leaves, what it shows its caller, and whether it is meant (an accepted set-up is not: it begins another run)
+pub record Calls (M C : Type 0) : Type 1 where
+  pub after : M → C → M
+  pub shows : M → C → Event
+  pub Meant : M → C → Type 0
+
+module _ {M C : Type 0} (A : Calls M C) where
+  -- the run of a list of calls
+  unfoldable pub events : M → List C → List Event
+  events m [] = []
+  events m (x ∷ xs) = A .shows m x ∷ events (A .after m x) xs
+
+  -- each call is meant, where it comes
+  unfoldable pub AllMeant : M → List C → Type 0
+  AllMeant m [] = Unit {0}
+  AllMeant m (x ∷ xs) = A .Meant m x × AllMeant (A .after m x) xs
 
 -- ---- the operations of a run
 

@@ -1,2 +1,2 @@
--- The laws of the program's turns.
+-- The laws of the program's turns; no one else cites them.
 pub mod Turns

@@ -6,7 +6,7 @@ use mathlib.Core.List.{List}
 use native.Mathlib.Omega.{arith}
 use lib.ListN.{length, take}
 use lib.Seq.{length-take-le}
-use Rattle.sets.specs.Choice.{if_then_else_}
+use Rattle.sets.specs.Plain.{if_then_else_}
 use Rattle.schedule.specs.declared.Fed.{Fed}
 use Rattle.schedule.specs.Input.{FedOn}
 use Rattle.rehearse.specs.declared.State.{State}

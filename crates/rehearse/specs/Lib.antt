@@ -1,2 +1,2 @@
--- What the program's turns keep to.
+-- What the program's turns keep to; no one else reads it.
 pub mod Turns

@@ -1,31 +1,35 @@
 -- The ways through the rules' choices by order, kind and phase, in the words of the code.
 use mathlib.Core.Path.{_≡_, sym, subst, _∙_}
-use mathlib.Core.Bool.{Bool, true, false}
+use mathlib.Core.Bool.{Bool, true, false, not, _||_}
 use mathlib.Core.Logic.{_⊎_, inl, inr, ⊎-elim}
 use Prim.Native.Nat.{ℕ, _+_, _≤_, _<_}
 use borrow.Author.Tests.{ne-eqb, le-leb, lt-leb}
 use lib.Dec.{eqb, leb}
+use Rattle.sets.specs.Plain.{if_then_else_}
 use Rattle.sets.specs.declared.Tag.{Tag}
 use Rattle.sets.specs.declared.Order.{Order}
 use Rattle.sets.specs.declared.Order.the-variants.{Lower, Same, Greater}
-use Rattle.sets.specs.Tags.{against}
-use Rattle.sets.specs.Sets.{size, join, with}
+use Rattle.sets.specs.Tags.{first, against}
+use Rattle.sets.specs.Sets.{has, size, join, only, with}
 use Rattle.tables.specs.declared.Conf.{Conf}
 use Rattle.tables.specs.declared.Client.{Client}
 use Rattle.tables.specs.declared.Directory.{Directory}
 use Rattle.tables.specs.declared.Message.{Message}
+use Rattle.tables.specs.Tables.{noPage}
+use Rattle.rules.specs.declared.Answer.{Answer}
 use Rattle.rules.specs.declared.Post.{Post}
 use Rattle.rules.specs.declared.Outcome.{Outcome}
-use Rattle.rules.specs.declared.Outcome.the-variants.{Waiting, Next, Stale}
-use Rattle.rules.specs.Posts.{post, noPost}
+use Rattle.rules.specs.declared.Outcome.the-variants.{Waiting, Next, Spent, Stale}
+use Rattle.rules.specs.Posts.{message, post, noPost}
 use Rattle.rules.specs.Quorums.{enoughToRead, enoughToWrite}
-use Rattle.rules.specs.Directory.{holding, told, noticed, directoryAfter, directoryPost}
+use Rattle.rules.specs.Directory.{holding, told, noticed, directoryAfter, reply, directoryPost}
 use Rattle.rules.specs.Client.{awaited, enoughFor, isStale, gathered, raised, hearing, heard, turned, outcome, moved, clientAfter, request, clientPost}
+use Rattle.rules.specs.Answers.{answer, answerOf}
 use Rattle.rules.specs.Inner.{AfterAble}
 use Rattle.rules.proofs.Heard.{heard-keeps}
 
 -- a number's test is its equal's
-at : {p q : ℕ} → p ≡ q → (n : ℕ) → eqb p n ≡ eqb q n
+pub at : {p q : ℕ} → p ≡ q → (n : ℕ) → eqb p n ≡ eqb q n
 at e n = rw e
 
 -- ---- the directory
@@ -38,12 +42,13 @@ module _ (d : Directory) (t : Tag) (o : Order) (e : o ≡ against t (d .tag)) wh
     pub told-lower : o ≡ Lower → d ≡ told f d t s (against t (d .tag))
     told-lower h = rw (← e, h)
 
-    module _ (n : ℕ) (h : o ≡ Greater) (k : n ≡ size s) where
-      pub told-many : f + 1 ≤ n → holding d t s ≡ told f d t s (against t (d .tag))
-      told-many l = rw (← e, h, le-leb _ _ (rw k at l))
+    -- m is the least size that the code asks for, and the definition too
+    module _ (m n : ℕ) (h : o ≡ Greater) (k : n ≡ size s) where
+      pub told-many : m ≤ n → told f d t s Greater ≡ (if leb m (size s) then holding d t s else d) → holding d t s ≡ told f d t s (against t (d .tag))
+      told-many l q = rw (← e, h) (sym (q ∙ rw (le-leb _ _ (rw k at l))))
 
-      pub told-few : n < f + 1 → d ≡ told f d t s (against t (d .tag))
-      told-few l = rw (← e, h, lt-leb _ _ (rw k at l))
+      pub told-few : n < m → told f d t s Greater ≡ (if leb m (size s) then holding d t s else d) → d ≡ told f d t s (against t (d .tag))
+      told-few l q = rw (← e, h) (sym (q ∙ rw (lt-leb _ _ (rw k at l))))
 
   pub noticed-same : (r j : ℕ) → o ≡ Same → j ≡ with (d .set) r → holding d (d .tag) j ≡ noticed d r (against t (d .tag))
   noticed-same r j h k = rw (← e, h, k)
@@ -72,6 +77,10 @@ kinded x n =
 abbrev pub phased : Client → ℕ → Client
 phased w p =
     record { down = w .down; phase = p; number = w .number; answered = w .answered; replicas = w .replicas; tag = w .tag; spare = w .spare; page = w .page }
+
+pub replied : (x : Message) (kind : ℕ) (t : Tag) (set to : ℕ) (r : Post) → to ≡ only (x .sender)
+    → r ≡ post (message kind (x .receiver) t set (x .number) noPage) to → r ≡ reply x kind t set
+replied x kind t set to r e h = h ∙ rw e
 
 module _ (d : Directory) (x : Message) (r : Post) where
   pub post-kind : (n : ℕ) → x .kind ≡ n → r ≡ directoryPost d (kinded x n) → r ≡ directoryPost d x
@@ -112,6 +121,21 @@ module _ (k : Conf) (p s : ℕ) where
       )
 
 -- ---- a reply
+
+pub stale-by : (w : Client) (x : Message) (k : ℕ) (i : Bool) → k ≡ awaited (w .phase) → i ≡ has (w .answered) (x .sender)
+    → (not (eqb (x .kind) k) || not (eqb (x .number) (w .number)) || i) ≡ isStale w x
+unfolding isStale
+stale-by w x k i e f = rw (e, f)
+
+module _ (w : Client) (a : ℕ) (t : Tag) (o : Order) (e : o ≡ against t (w .tag)) where
+  pub gathered-by : (s : ℕ) (p : Order) (r : Client) → o ≡ p → r ≡ gathered w a t s p → r ≡ gathered w a t s (against t (w .tag))
+  gathered-by s p r h k = rw (← e, h) k
+
+  pub gathered-same : (s j : ℕ) → o ≡ Same → j ≡ join (w .replicas) s → hearing w a j (w .tag) ≡ gathered w a t s (against t (w .tag))
+  gathered-same s j h k = rw (← e, h, k)
+
+  pub raised-by : (p : Order) (r : Client) → o ≡ p → r ≡ raised w a t p → r ≡ raised w a t (against t (w .tag))
+  raised-by p r h k = rw (← e, h) k
 
 module _ (w : Client) (x : Message) (a : ℕ) (s : a ≡ with (w .answered) (x .sender)) where
   module _ (r : Client) where
@@ -167,18 +191,27 @@ module _ (w : Client) (x : Message) (o : Outcome) where
     pub next-phase : d .phase ≤ 6
     next-phase = rw (h, heard-keeps w x .phase) (g .low)
 
+-- ---- the answer, by the outcome
+
+module _ (own : ℕ) (o : Outcome) where
+  pub answer-by : (p : Outcome) (r : Answer) → o ≡ p → r ≡ answerOf own p → r ≡ answerOf own o
+  answer-by p r e h = rw e h
+
+  pub answer-spent : (t : Tag) → o ≡ Spent → t ≡ first → answer 3 own t ≡ answerOf own o
+  answer-spent t e h = rw (e, h)
+
 -- ---- what is sent
 
 pub posted : (k : Conf) (own : ℕ) (w y : Client) (o p : Outcome) (r : Post) → o ≡ p → r ≡ clientPost k own w y p → r ≡ clientPost k own w y o
 posted k own w y o p r e h = rw e h
 
 module _ (k : Conf) (own : ℕ) (w : Client) (r : Post) where
-  -- d is the set that the code has, s the one of the definition
-  pub requested : (p : ℕ) (x : Message) (d s : ℕ) → w .phase ≡ p → r ≡ post x d → d ≡ s → post x s ≡ request k own (phased w p) → r ≡ request k own w
-  requested p x d s e h i j = h ∙ rw i (subst (λ (p : ℕ). post x s ≡ request k own (phased w p)) (sym e) j)
-
   pub requested-set : (p : ℕ) → w .phase ≡ p → r ≡ request k own (phased w p) → r ≡ request k own w
   requested-set p e h = subst (λ (p : ℕ). r ≡ request k own (phased w p)) (sym e) h
+
+  -- d is the set that the code has, s the one of the definition
+  pub requested : (p : ℕ) (x : Message) (d s : ℕ) → w .phase ≡ p → r ≡ post x d → d ≡ s → post x s ≡ request k own (phased w p) → r ≡ request k own w
+  requested p x d s e h i j = requested-set p e (h ∙ rw i j)
 
   pub no-request : (w .phase ≡ 1 → ⊥) → (w .phase ≡ 2 → ⊥) → (w .phase ≡ 3 → ⊥) → (w .phase ≡ 4 → ⊥) → (w .phase ≡ 5 → ⊥) → (w .phase ≡ 6 → ⊥)
       → r ≡ noPost → r ≡ request k own w

@@ -1,20 +1,28 @@
 -- How a message and tidy change a replica's entries: one relation for all changes, and the ways through a message.
 use mathlib.Core.Path.{_≡_, refl}
-use mathlib.Core.Bool.{not}
+use mathlib.Core.Bool.{Bool, not}
 use mathlib.Core.List.{List, [], _∷_}
 use native.Mathlib.Omega.{arith}
-use lib.Dec.{T, eqb, eqb→eq}
+use lib.Dec.{T, eqb, eqb→eq, T-not}
 use Rattle.sets.specs.declared.Tag.{Tag}
 use Rattle.sets.specs.Tags.{lower, same}
 use Rattle.sets.proofs.Tests.{and-elim, and-intro, if-ind}
 use Rattle.sets.proofs.TagOrder.{_≼_, _≺_, ≺→≼, lower→≺, same→≡, ≡→same}
 use Rattle.tables.specs.declared.Entry.{Entry}
 use Rattle.tables.specs.declared.Message.{Message}
-use Rattle.tables.specs.Rows.{putFirst}
+use Rattle.tables.specs.Rows.{some?, putFirst}
 use Rattle.tables.specs.Tables.{isFree, isSecured, hasTag}
 use Rattle.tables.proofs.Lists.{Each, ends, next, each-same, each-map, each-putFirst, each-back}
 use Rattle.rules.specs.Replica.{entry, there, highest, secured, secure, write, hearGossip, freeBelow, tidied, replicaAfter}
 use Rattle.rules.proofs.Highest.{Below, highest-least, highest-above, tidied-highest}
+
+-- some entry passes a test
+module _ (p : Entry → Bool) (e : Entry) (es : List Entry) where
+  pub some-first : T (p e) → T (some? p (e ∷ es))
+  some-first h = if-ind T (p e) (λ _. tt) (λ n. absurd (T-not (p e) n h))
+
+  pub some-later : T (some? p es) → T (some? p (e ∷ es))
+  some-later h = if-ind T (p e) (λ _. tt) (λ _. h)
 
 -- an entry in use with the tag
 module _ (t : Tag) (e : Entry) where

@@ -6,7 +6,7 @@ use mathlib.Core.List.{List, [], _∷_}
 use Prim.Native.Nat.{ℕ}
 use native.Mathlib.Omega.{arith}
 use lib.Dec.{T, eqb, eqb→eq, T-not, not-T}
-use Rattle.sets.specs.Choice.{if_then_else_, oneOf}
+use Rattle.sets.specs.Plain.{if_then_else_, oneOf}
 use Rattle.sets.specs.declared.Tag.{Tag}
 use Rattle.sets.proofs.Tests.{not-not, and-intro, or-elim, not-both, if-ind}
 use Rattle.sets.proofs.TagOrder.{_≼_, _≺_, ≼-refl, ≺→≼, ≺-≼}
@@ -18,16 +18,9 @@ use Rattle.tables.proofs.All.{All, none, cons, all-map}
 use Rattle.tables.proofs.Lists.{put-some, Each, ends, next}
 use Rattle.rules.specs.Replica.{entry, there, entryWith, highest, read, tidied, replicaAfter, isFull}
 use Rattle.rules.proofs.Highest.{highest-of}
-use Rattle.rules.proofs.Changes.{has-tag, tag-has, Kept, wasFree, stays, madeSecure, dropped, Grows, free-not-secured, highest-grows, secure-kept, tidied-grows, After, holds, writes, secures, confirms, hears, other, after, after-grows}
+use Rattle.rules.proofs.Changes.{some-first, some-later, has-tag, tag-has, Kept, wasFree, stays, madeSecure, dropped, Grows, free-not-secured, highest-grows, secure-kept, tidied-grows, After, holds, writes, secures, confirms, hears, other, after, after-grows}
 
 -- ---- whether a tag is there
-
-module _ (t : Tag) (e : Entry) where
-  there-first : (es : List Entry) → T (hasTag t e) → T (there t (e ∷ es))
-  there-first es h = if-ind T (hasTag t e) (λ _. tt) (λ n. absurd (T-not (hasTag t e) n h))
-
-  there-later : (es : List Entry) → T (there t es) → T (there t (e ∷ es))
-  there-later es h = if-ind T (hasTag t e) (λ _. tt) (λ _. h)
 
 kept-tag : {h : Tag} (t : Tag) (e e′ : Entry) → T (hasTag t e) → Kept h e e′ → T (hasTag t e′) ⊎ (t ≺ h)
 kept-tag t e e′ k (wasFree f) = absurd (T-not (isFree e) (tag-has t e k .0) f)
@@ -40,8 +33,8 @@ there-grows t ends k = absurd k
 there-grows {h} t (next {x = e} {y = e′} {xs = es} {ys = es′} r rs) k = go (hasTag t e) refl k (λ m. there-grows t rs m)
   where
     go : (b : Bool) → hasTag t e ≡ b → T (if b then true else there t es) → (T (there t es) → T (there t es′) ⊎ (t ≺ h)) → T (there t (e′ ∷ es′)) ⊎ (t ≺ h)
-    go true q k f = ⊎-elim (λ a. inl (there-first t e′ es′ a)) (λ l. inr l) (kept-tag t e e′ (rw q tt) r)
-    go false q k f = ⊎-elim (λ a. inl (there-later t e′ es′ a)) (λ l. inr l) (f k)
+    go true q k f = ⊎-elim (λ a. inl (some-first (hasTag t) e′ es′ a)) (λ l. inr l) (kept-tag t e e′ (rw q tt) r)
+    go false q k f = ⊎-elim (λ a. inl (some-later (hasTag t) e′ es′ a)) (λ l. inr l) (f k)
 
 -- ---- an entry in use has the tag, or it is below the highest secured tag
 
@@ -103,15 +96,16 @@ entryWith-has t (e ∷ es) h = go (hasTag t e) refl h (λ k. entryWith-has t es 
 all-there : (es : List Entry) → All (λ e. T (isSecured e) → T (there (e .tag) es)) es
 all-there [] = none
 all-there (e ∷ es) =
-    cons (λ s. there-first (e .tag) e es (has-tag (e .tag) e (not-T (isFree e) (λ f. free-not-secured e f s)) refl))
-    (all-map (λ a f s. there-later (a .tag) e es (f s)) (all-there es))
+    cons (λ s. some-first (hasTag (e .tag)) e es (has-tag (e .tag) e (not-T (isFree e) (λ f. free-not-secured e f s)) refl))
+    (all-map (λ a f s. some-later (hasTag (a .tag)) e es (f s)) (all-there es))
 
 module _ (es : List Entry) (s : T (some? isSecured es)) where
-  -- the highest secured entry
+  -- the highest secured tag has an entry
+  pub highest-there : T (there (highest es) es)
+  highest-there = highest-of (λ (u : Tag). T (there u es)) (all-there es) s
+
   pub highest-tag : entryWith (highest es) es .tag ≡ highest es
-  highest-tag =
-      tag-has (highest es) (entryWith (highest es) es)
-      (entryWith-has (highest es) es (highest-of (λ (u : Tag). T (there u es)) (all-there es) s)) .1
+  highest-tag = tag-has (highest es) (entryWith (highest es) es) (entryWith-has (highest es) es highest-there) .1
 
   module _ (t : Tag) where
     -- the tag asked for, or the highest secured tag

@@ -5,7 +5,7 @@ use mathlib.Core.List.{[], _∷_}
 use Prim.Native.Nat.{ℕ, _+_, _≤_, _<_}
 use native.Mathlib.Omega.{arith}
 use lib.Dec.{T, eqb, leb, leb→le, nleb→lt, T-not}
-use Rattle.sets.specs.Choice.{oneOf}
+use Rattle.sets.specs.Plain.{oneOf}
 use Rattle.sets.specs.declared.Order.the-variants.{Greater}
 use Rattle.sets.specs.Tags.{against}
 use Rattle.sets.specs.Sets.{size, join, with}
@@ -36,21 +36,23 @@ module _ (f : ℕ) (d : Directory) (x : Message) where
             (λ l. stays (λ _ m. absurd (omega (arith, nleb→lt (f + 1) (size (x .set)) l)))))
       ]
 
+  untold : T (not (oneOf (x .kind) (2 ∷ 4 ∷ []))) → DirectoryView f d x d
+  untold n = stays (λ k _. absurd (T-not (oneOf (x .kind) (2 ∷ 4 ∷ [])) n k))
+
   noticed-view : T (not (oneOf (x .kind) (2 ∷ 4 ∷ []))) → T (eqb (x .kind) 14)
       → DirectoryView f d x (noticed d (x .sender) (against (x .tag) (d .tag)))
   noticed-view n t =
       elim (view (x .tag) (d .tag)) [
-        | is-lower e h ↦ rw e (stays (λ k _. absurd (T-not (oneOf (x .kind) (2 ∷ 4 ∷ [])) n k)))
+        | is-lower e h ↦ rw e (untold n)
         | is-same e h ↦ rw e (adds t h)
-        | is-greater e h ↦ rw e (stays (λ k _. absurd (T-not (oneOf (x .kind) (2 ∷ 4 ∷ [])) n k)))
+        | is-greater e h ↦ rw e (untold n)
       ]
 
   pub directory-view : DirectoryView f d x (directoryAfter f d x)
   unfolding directoryAfter
   directory-view =
       if-ind (DirectoryView f d x) (oneOf (x .kind) (2 ∷ 4 ∷ [])) told-view
-      (λ n. if-ind (DirectoryView f d x) (eqb (x .kind) 14) (noticed-view n)
-      (λ _. stays (λ k _. absurd (T-not (oneOf (x .kind) (2 ∷ 4 ∷ [])) n k))))
+      (λ n. if-ind (DirectoryView f d x) (eqb (x .kind) 14) (noticed-view n) (λ _. untold n))
 
   -- a directory's tag never falls
   pub tag-rises : d .tag ≼ directoryAfter f d x .tag
@@ -61,15 +63,6 @@ module _ (f : ℕ) (d : Directory) (x : Message) where
       go (takes _ h _) = ≺→≼ h
       go (adds _ _) = ≼-refl _
       go (stays _) = ≼-refl _
-
-  pub down-kept : directoryAfter f d x .down ≡ d .down
-  down-kept = go directory-view
-    where
-      go : {y : Directory} → DirectoryView f d x y → y .down ≡ d .down
-      go (joins _ _) = refl
-      go (takes _ _ _) = refl
-      go (adds _ _) = refl
-      go (stays _) = refl
 
   -- a tag told with a set of f + 1 is reached
   pub tag-reached : Tells x → f + 1 ≤ size (x .set) → x .tag ≼ directoryAfter f d x .tag

@@ -7,13 +7,13 @@ use native.Mathlib.Omega.{arith}
 use borrow.Author.Tests.{lt-ltb, le-ltb}
 use lib.Dec.{ltb}
 use lib.ListN.{length, getD, set, take, drop}
-use Rattle.sets.specs.Choice.{if_then_else_}
+use Rattle.sets.specs.Plain.{if_then_else_}
 use Rattle.sets.specs.declared.Tag.{Tag}
 use Rattle.sets.specs.Tags.{first}
 use Rattle.tables.specs.declared.Entry.{Entry}
-use Rattle.tables.specs.Rows.{before}
+use Rattle.tables.specs.Inner.{before}
 use Rattle.tables.specs.Tables.{noEntry, hasTag}
-use Rattle.tables.specs.Words.{entryOf, entriesOf}
+use Rattle.tables.specs.Machines.{entryOf, entriesOf}
 use Rattle.tables.proofs.Lists.{some-before}
 use Rattle.tables.proofs.Loops.{turn, no-more}
 use Rattle.tables.proofs.Read.{entries-many}

@@ -1,8 +1,8 @@
 -- What a message and tidy keep of all entries: a fact of every entry, pages and their number, every secured tag, and that some entry is secured.
 use mathlib.Core.Path.{_∙_}
 use mathlib.Core.List.{List, [], _∷_, map}
-use lib.Dec.{T, eqb, T-not}
-use Rattle.sets.specs.Choice.{oneOf}
+use lib.Dec.{T, eqb}
+use Rattle.sets.specs.Plain.{oneOf}
 use Rattle.sets.specs.declared.Tag.{Tag}
 use Rattle.sets.specs.Tags.{first, lower}
 use Rattle.sets.proofs.Tests.{or-left, or-right, if-ind}
@@ -17,7 +17,7 @@ use Rattle.tables.proofs.Whole.{Paged, blank-entry}
 use Rattle.rules.specs.Replica.{entry, there, entryWith, highest, secured, secure, read, freeBelow, tidied, replicaAfter}
 use Rattle.rules.proofs.Stock.{Stock}
 use Rattle.rules.proofs.Highest.{highest-of}
-use Rattle.rules.proofs.Changes.{free-not-secured, Kept, wasFree, stays, madeSecure, dropped, After, holds, writes, secures, confirms, hears, other, after, tag-has, after-kept, after-grows, tidied-grows}
+use Rattle.rules.proofs.Changes.{some-first, some-later, free-not-secured, Kept, wasFree, stays, madeSecure, dropped, After, holds, writes, secures, confirms, hears, other, after, tag-has, after-kept, after-grows, tidied-grows}
 
 -- ---- any fact
 
@@ -100,8 +100,8 @@ all-left (e ∷ es) =
     (λ s.
     if-ind (λ (y : Entry). T (some? isSecured (y ∷ map (freeBelow (e .tag)) es))) (lower (e .tag) (e .tag))
     (λ l. absurd (≺-irrefl (lower→≺ (e .tag) (e .tag) l)))
-    (λ _. if-ind T (isSecured e) (λ _. tt) (λ n. absurd (T-not (isSecured e) n s))))
-    (all-map (λ a f s. if-ind T (isSecured (freeBelow (a .tag) e)) (λ _. tt) (λ _. f s)) (all-left es))
+    (λ _. some-first isSecured e (map (freeBelow (e .tag)) es) s))
+    (all-map (λ a f s. some-later isSecured (freeBelow (a .tag) e) (map (freeBelow (a .tag)) es) (f s)) (all-left es))
 
 pub some-tidied : (es : List Entry) → T (some? isSecured es) → T (some? isSecured (tidied es))
 unfolding tidied

@@ -1,4 +1,4 @@
--- The laws of the rules: what the proofs of the code cite (Cases, Stock, Entries, Marks), and what later steps cite.
+-- The laws of the rules. Cases, Marks, Chosen and the functions' proofs may change freely; `machine`, `runs` and `history` cite the others.
 pub mod Cases
 pub mod Stock
 pub mod Entries

@@ -9,13 +9,14 @@ use borrow.Author.Tests.{eq-eqb, ne-eqb}
 use lib.Dec.{eqb}
 use lib.ListN.{length, getD, set, take, drop, length-map}
 use lib.Seq.{take-all}
-use Rattle.sets.specs.Choice.{if_then_else_}
+use Rattle.sets.specs.Plain.{if_then_else_}
 use Rattle.sets.specs.declared.Tag.{Tag}
 use Rattle.sets.specs.Tags.{lower}
 use Rattle.sets.proofs.Tests.{if-ind}
 use Rattle.tables.specs.declared.Entry.{Entry}
 use Rattle.tables.specs.Tables.{noEntry}
-use Rattle.tables.specs.Words.{entryOf, entriesOf, withEntries}
+use Rattle.tables.specs.Machines.{entryOf, entriesOf}
+use Rattle.tables.specs.Inner.{withEntries}
 use Rattle.tables.proofs.All.{All, none, cons}
 use Rattle.tables.proofs.Lists.{map-at}
 use Rattle.tables.proofs.Parts.{Copied, copied-more, copied-over}

@@ -6,9 +6,11 @@ use native.Mathlib.Omega.{arith}
 use lib.ListN.{length, getD, set, take, drop, length-append, length-drop, length-set, take-append-drop, List·getD-eq-default}
 use lib.Seq.{drop-at, set-out}
 use Rattle.tables.specs.declared.Entry.{Entry}
-use Rattle.tables.specs.Rows.{put, rowsWords}
+use Rattle.tables.specs.Rows.{rowsWords}
+use Rattle.tables.specs.Inner.{put, withEntries}
 use Rattle.tables.specs.Tables.{noEntry}
-use Rattle.tables.specs.Words.{entryWords, entryOf, replicaWords, entriesOf, withEntries}
+use Rattle.tables.specs.Words.{entryWords, replicaWords}
+use Rattle.tables.specs.Machines.{entryOf, entriesOf}
 use Rattle.tables.proofs.All.{all-map, all-set}
 use Rattle.tables.proofs.Table.{put-before, rows-set}
 use Rattle.tables.proofs.Parts.{rest-all, put-rest}

@@ -1,5 +1,5 @@
 -- "A step's answer is code, client, tag number, tag client. Only codes 1 and 2 fill all; 3 has the client; the rest are zero."
-use Prim.Native.Nat.{ℕ}
+use Rattle.sets.specs.Plain.{ℕ}
 use Rattle.sets.specs.declared.Tag.{Tag}
 use Rattle.sets.specs.Tags.{first}
 use Rattle.rules.specs.declared.Answer.{Answer}

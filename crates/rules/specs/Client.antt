@@ -1,9 +1,5 @@
 -- "Client": what a reply leads to, the row afterwards, and what is sent.
-use mathlib.Core.Bool.{Bool, true, not, _||_}
-use mathlib.Core.List.{[], _∷_}
-use Prim.Native.Nat.{ℕ, _+_}
-use lib.Dec.{leb, eqb}
-use Rattle.sets.specs.Choice.{if_then_else_, oneOf}
+use Rattle.sets.specs.Plain.{Bool, true, not, _||_, ℕ, _+_, leb, eqb, [], _∷_, if_then_else_, oneOf}
 use Rattle.sets.specs.declared.Tag.{Tag}
 use Rattle.sets.specs.declared.Order.{Order}
 use Rattle.sets.specs.declared.Order.the-variants.{Lower, Same, Greater}
@@ -31,10 +27,6 @@ awaited p =
     else if eqb p 5 then 13
     else if eqb p 6 then 8
     else 0
-
--- 1 goes to 2, 2 to 3, 4 to 5, 5 to 6
-abbrev pub nextPhase : ℕ → ℕ
-nextPhase p = p + 1
 
 -- "At rq: phase 1 .., phase 4 ..; phase 2 at wq; phase 3 ends at its first reply; phase 5 at f + 1; phase 6 at wq"
 unfoldable pub enoughFor : Conf → ℕ → ℕ → Bool
@@ -101,12 +93,12 @@ idle w =
     record { down = w .down; phase = 0; number = w .number; answered = 0; replicas = 0; tag = first; spare = w .spare; page = noPage }
 
 -- "Every change of phase empties the answered set and, unless it ends, adds 1 to the message number";
--- from 5 to 6 "the answered set becomes the replica set"
+-- 1 goes to 2, 2 to 3, 4 to 5, 5 to 6, and there "the answered set becomes the replica set"
 abbrev pub moved : Client → Tag → Client
 moved w t =
     record {
       down = w .down;
-      phase = nextPhase (w .phase);
+      phase = w .phase + 1;
       number = w .number + 1;
       answered = 0;
       replicas = if eqb (w .phase) 5 then w .answered else w .replicas;

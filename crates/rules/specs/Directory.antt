@@ -1,8 +1,5 @@
 -- "Directory": its row after a message, and its reply.
-use mathlib.Core.List.{[], _∷_}
-use Prim.Native.Nat.{ℕ, _+_}
-use lib.Dec.{leb, eqb}
-use Rattle.sets.specs.Choice.{if_then_else_, oneOf}
+use Rattle.sets.specs.Plain.{ℕ, _+_, leb, eqb, [], _∷_, if_then_else_, oneOf}
 use Rattle.sets.specs.declared.Tag.{Tag}
 use Rattle.sets.specs.declared.Order.{Order}
 use Rattle.sets.specs.declared.Order.the-variants.{Lower, Same, Greater}

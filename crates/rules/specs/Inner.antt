@@ -3,7 +3,7 @@ use mathlib.Core.List.{List, [], _∷_}
 use mathlib.Core.Path.{_≡_}
 use lib.Dec.{eqb}
 use lib.ListN.{length}
-use Rattle.sets.specs.Choice.{if_then_else_}
+use Rattle.sets.specs.Plain.{if_then_else_}
 use Rattle.sets.specs.Tags.{lower}
 use Prim.Native.Nat.{ℕ, _+_, _≤_, _<_}
 use Rattle.sets.specs.declared.Tag.{Tag}

@@ -1,6 +1,5 @@
 -- What a step sends: one message to a set of receivers.
-use mathlib.Core.List.{List, map}
-use Prim.Native.Nat.{ℕ}
+use Rattle.sets.specs.Plain.{ℕ, List, map}
 use Rattle.sets.specs.declared.Tag.{Tag}
 use Rattle.sets.specs.Sets.{members}
 use Rattle.tables.specs.declared.Message.{Message}

@@ -1,7 +1,5 @@
 -- "A count here means that many parties answered, or more": when an answered set of directories is enough.
-use mathlib.Core.Bool.{Bool}
-use Prim.Native.Nat.{ℕ}
-use lib.Dec.{leb}
+use Rattle.sets.specs.Plain.{Bool, ℕ, leb}
 use Rattle.sets.specs.Sets.{size}
 use Rattle.tables.specs.declared.Conf.{Conf}
 

@@ -1,9 +1,5 @@
 -- "Replica", "Gossip" and "Tidy": the entries of a replica after a message, and what it sends.
-use mathlib.Core.Bool.{Bool, true, false, not, _&&_}
-use mathlib.Core.List.{List, [], _∷_, map}
-use Prim.Native.Nat.{ℕ}
-use lib.Dec.{eqb}
-use Rattle.sets.specs.Choice.{if_then_else_, oneOf}
+use Rattle.sets.specs.Plain.{Bool, not, _&&_, ℕ, eqb, List, [], _∷_, map, if_then_else_, oneOf}
 use Rattle.sets.specs.declared.Tag.{Tag}
 use Rattle.sets.specs.Tags.{first, lower}
 use Rattle.sets.specs.Sets.{only, all}

@@ -1,7 +1,6 @@
 // The client's row after a reply, and what it sends.
 ghost use mathlib.Core.Path.{_≡_};
 ghost use Prim.Native.Nat.{_<_, _≤_};
-ghost use Rattle.tables.specs.Tables.{Page};
 ghost use Rattle.rules.specs.Answers.{coded, answerOf};
 ghost use Rattle.rules.specs.Client.{idle, moved, started, clientAfter, request, secures, clientPost};
 ghost use Rattle.rules.specs.Inner.{AfterAble, Few};

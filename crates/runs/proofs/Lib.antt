@@ -1,4 +1,4 @@
--- The theorems of the machine, and the laws beneath them.
+-- The theorems of every run: Refused, One, Reached, Never, Runs. Sound, Ways, New, Rows and Reached are cited by `history`; the rest may change freely.
 pub mod Ways
 pub mod Refused
 pub mod One
@@ -7,6 +7,7 @@ pub mod Sent
 pub mod Directories
 pub mod Once
 pub mod Replicas
+pub mod Busy
 pub mod Clients
 pub mod New
 pub mod Rows

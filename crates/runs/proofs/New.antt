@@ -8,17 +8,18 @@ use native.Mathlib.Omega.{arith}
 use borrow.Author.Tests.{lt-ltb, le-leb}
 use lib.Dec.{leb}
 use lib.ListN.{replicate, length-replicate}
-use Rattle.sets.specs.Choice.{numbers}
+use Rattle.sets.specs.Plain.{numbers}
 use Rattle.sets.proofs.Laws.{all-lt}
 use Rattle.sets.proofs.Tests.{either, if-ind}
 use Rattle.tables.specs.declared.Conf.{Conf}
 use Rattle.tables.specs.Rows.{rowsWords}
 use Rattle.tables.specs.Tables.{Page, noPage, noClient, noDirectory, noEntry, noReplica, noMessage}
 use Rattle.tables.specs.Words.{clientWords, directoryWords, entryWords, replicaWords, messageWords}
-use Rattle.tables.proofs.All.{All, none, cons, all-replicate}
+use Rattle.tables.proofs.All.{cons, all-replicate}
 use Rattle.tables.proofs.Whole.{Paged, Stocked, blank-client, blank-message, blank-entry, blank-replica}
 use Rattle.inspect.specs.Good.{zeros, eachRow, goodNumbers, goodClient, goodDirectory, goodEntry, tagsOnce, goodReplica, clientRow, directoryRow, replicaRow, slotRow, goodMachine}
 use Rattle.machine.specs.Steps.{firstDirectory, firstReplica, newMachine}
+use Rattle.machine.proofs.Places.{all-from}
 use Rattle.runs.proofs.Sound.{Sound}
 
 -- rows made from their own numbers
@@ -29,10 +30,6 @@ each-made test f h k (suc n) = rw (h k, each-made test f h (suc k) n)
 each-same : {A : Type 0} (test : ℕ → A → Bool) (a : A) → ((n : ℕ) → test n a ≡ true) → (k n : ℕ) → eachRow test k (replicate n a) ≡ true
 each-same test a h k zero = refl
 each-same test a h k (suc n) = rw (h k, each-same test a h (suc k) n)
-
-all-made : {A : Type 0} {P : A → Type 0} (f : ℕ → A) → ((n : ℕ) → P (f n)) → (k n : ℕ) → All P (map f (numbers k n))
-all-made f h k zero = none
-all-made f h k (suc n) = cons (h k) (all-made f h (suc k) n)
 
 zero-least : (n : ℕ) → leb 0 n ≡ true
 zero-least n = le-leb 0 n (omega arith)
@@ -86,7 +83,7 @@ module _ (k : Conf) where
                 replicas = refl;
                 slots = length-replicate 128 noMessage;
                 client-pages = all-replicate 8 noClient blank-client;
-                stocks = all-made (firstReplica k page) stocked-new 1 7;
+                stocks = all-from (firstReplica k page) (numbers 1 7) (λ r _. stocked-new r);
                 slot-pages = all-replicate 128 noMessage blank-message;
               };
         }

@@ -29,7 +29,8 @@ use Rattle.runs.proofs.Sound.{Sound, Fits, Keeps, applied-sound}
 use Rattle.runs.proofs.Sent.{is-between, sends-none}
 use Rattle.runs.proofs.Directories.{directory-fits, directory-after, directory-sends}
 use Rattle.runs.proofs.Replicas.{replica-fits, stores-tidied, gossip-sends, stores-after, replica-sends}
-use Rattle.runs.proofs.Clients.{client-fits, busy-facts, started-busy, request-sends, client-answers}
+use Rattle.runs.proofs.Busy.{client-fits, busy-facts, started-busy, request-sends}
+use Rattle.runs.proofs.Clients.{client-answers}
 use Rattle.runs.proofs.New.{new-sound}
 use Rattle.runs.proofs.Rows.{client-of, directory-of, replica-of, stores-of, message-of}
 

@@ -6,8 +6,7 @@ use Prim.Native.Nat.{ℕ, _≤_}
 use native.Mathlib.Omega.{arith}
 use borrow.Author.Tests.{le-leb, ne-eqb}
 use lib.Dec.{T, not-T}
-use Rattle.sets.specs.declared.Tag.{Tag}
-use Rattle.sets.proofs.Tests.{T-true, true-T, T-false, if-ind, passes-by}
+use Rattle.sets.proofs.Tests.{T-true, true-T, T-false, passes-by}
 use Rattle.tables.specs.declared.Conf.{Conf}
 use Rattle.tables.specs.declared.Entry.{Entry}
 use Rattle.tables.specs.declared.Message.{Message}
@@ -16,17 +15,17 @@ use Rattle.tables.specs.Kinds.{senderOf, receiverOf}
 use Rattle.tables.specs.Rows.{some?}
 use Rattle.tables.specs.Tables.{Replica, noPage, noEntry, isFree, isSecured, hasTag}
 use Rattle.tables.specs.Words.{entryWords}
-use Rattle.tables.proofs.All.{All, none, cons, all-map}
+use Rattle.tables.proofs.All.{All, all-map}
 use Rattle.tables.proofs.Whole.{Paged, Stocked, blank-entry}
 use Rattle.inspect.specs.Good.{zeros, goodTag, eachRow, isParty, goodEntry, tagsOnce, goodReplica, replicaRow}
 use Rattle.inspect.proofs.Facts.{TagFacts, EntryFacts, MessageFacts, entry-facts, replica-facts}
 use Rattle.inspect.proofs.Made.{entry-made}
-use Rattle.rules.specs.Replica.{entry, there, entryWith, highest, secured, read, tidied, replicaAfter, replicaPost, gossipPost}
+use Rattle.rules.specs.Replica.{entry, entryWith, highest, secured, read, tidied, replicaAfter, replicaPost, gossipPost}
 use Rattle.rules.proofs.Stock.{Stock}
 use Rattle.rules.proofs.Highest.{highest-of}
 use Rattle.rules.proofs.Changes.{free-not-secured, tag-has}
 use Rattle.rules.proofs.Covers.{highest-tag, read-of}
-use Rattle.rules.proofs.Every.{all-after, all-tidied, stock-after, stock-tidied, some-after, some-tidied}
+use Rattle.rules.proofs.Every.{all-after, all-tidied, all-entryWith, all-read, stock-after, stock-tidied, some-after, some-tidied}
 use Rattle.runs.proofs.Sound.{each-in, each-out, Sends}
 use Rattle.runs.proofs.Sent.{good-tag, sends-all, sends-one, sends-none, sends-by}
 use Rattle.runs.proofs.Once.{once-after, once-tidied}
@@ -75,18 +74,6 @@ module _ (k : Conf) {es : List Entry} (s : Stores k es) where
   secured-tags : All (λ e. T (isSecured e) → TagFacts k (e .tag)) es
   secured-tags = all-map (λ e g h. entry-used e g (not-T (isFree e) (λ f. free-not-secured e f h)) .tag) (s .good)
 
-  entryWith-paged : (t : Tag) → Paged (entryWith t es .page)
-  unfolding entryWith
-  entryWith-paged t = go (s .stock .pages)
-    where
-      go : {es : List Entry} → All (λ (e : Entry). Paged (e .page)) es → Paged (entryWith t es .page)
-      go none = blank-entry
-      go (cons {x = e} p ps) = if-ind (λ (r : Entry). Paged (r .page)) (hasTag t e) (λ _. p) (λ _. go ps)
-
-  read-paged : (t : Tag) → Paged (read t es .page)
-  unfolding read
-  read-paged t = if-ind (λ (r : Entry). Paged (r .page)) (there t es) (λ _. entryWith-paged t) (λ _. entryWith-paged (highest es))
-
   pub stores-tidied : Stores k (tidied es)
   stores-tidied =
       record {
@@ -106,7 +93,7 @@ module _ (k : Conf) {es : List Entry} (s : Stores k es) where
         tag = good-tag k (entryWith (highest es) es .tag) (rw (highest-tag es (s .secured)) (highest-of (TagFacts k) secured-tags (s .secured)));
         set = refl;
         number = refl;
-        page = entryWith-paged (highest es);
+        page = all-entryWith {P = λ e. Paged (e .page)} (highest es) blank-entry (s .stock .pages);
       }) to b
 
   module _ (x : Message) (g : MessageFacts k x) (p : Paged (x .page)) where
@@ -135,7 +122,7 @@ module _ (k : Conf) {es : List Entry} (s : Stores k es) where
     pub replica-sends : Sends k (replicaPost (k .directories) es x)
     unfolding replicaPost senderOf receiverOf zeros noPage
     replica-sends =
-        sends-by k x g 9 (λ c. sends-one k (record { rest = refl; sender = c .receiver; tag = read-tag; set = refl; number = c .number; page = read-paged (x .tag) }) (x .sender) (c .sender))
+        sends-by k x g 9 (λ c. sends-one k (record { rest = refl; sender = c .receiver; tag = read-tag; set = refl; number = c .number; page = all-read {P = λ e. Paged (e .page)} (x .tag) blank-entry (s .stock .pages) }) (x .sender) (c .sender))
         (sends-by k x g 10 (λ c. sends-one k (record { rest = refl; sender = c .receiver; tag = refl; set = refl; number = c .number; page = refl }) (x .sender) (c .sender))
         (sends-by k x g 15 (λ c. sends-all k (record { rest = refl; sender = c .receiver; tag = good-tag k (x .tag) (g .tag); set = refl; number = refl; page = refl }))
         (sends-none k)))

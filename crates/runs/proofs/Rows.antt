@@ -6,7 +6,8 @@ use native.Mathlib.Omega.{arith}
 use Rattle.tables.specs.Tables.{Machine, clientAt, directoryAt, replicaAt, slotAt, isEmpty}
 use Rattle.tables.proofs.Whole.{replica-stocked}
 use Rattle.inspect.specs.Good.{goodClient, goodReplica}
-use Rattle.inspect.proofs.Facts.{NumbersFacts, DirectoryFacts, MessageFacts, numbers-facts, directory-facts, message-facts, numbers-pass, client-good, directory-good, replica-good, message-good}
+use Rattle.inspect.proofs.Facts.{NumbersFacts, DirectoryFacts, MessageFacts, numbers-facts, directory-facts, message-facts}
+use Rattle.inspect.proofs.Machines.{numbers-pass, client-good, directory-good, replica-good, message-good}
 use Rattle.runs.proofs.Sound.{Sound}
 use Rattle.runs.proofs.Replicas.{Stores, stores}
 

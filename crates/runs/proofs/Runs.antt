@@ -8,23 +8,24 @@ use native.Mathlib.Omega.{arith}
 use borrow.Author.Tests.{le-ltb, eq-eqb}
 use lib.Dec.{T, T-not}
 use lib.ListN.{length, drop, length-drop}
-use Rattle.sets.specs.Choice.{if_then_else_}
+use Rattle.sets.specs.Plain.{if_then_else_}
 use Rattle.sets.proofs.Tests.{T-true, not-not, not-both, either, if-ind}
 use Rattle.tables.specs.declared.Conf.{Conf}
 use Rattle.tables.specs.Tables.{Page, Machine}
-use Rattle.tables.specs.Words.{words, machineOf}
+use Rattle.tables.specs.Words.{words}
+use Rattle.tables.specs.Machines.{machineOf}
 use Rattle.tables.proofs.All.{All, none, cons}
 use Rattle.tables.proofs.Whole.{Paged, Whole, wholeOf}
 use Rattle.tables.proofs.Round.{words-back, machine-back, rest-words, length-words}
 use Rattle.inspect.specs.Good.{goodNumbers, good}
-use Rattle.inspect.proofs.Facts.{good-machine}
-use Rattle.rules.specs.Posts.{messagesOf}
+use Rattle.inspect.proofs.Machines.{good-machine}
 use Rattle.rules.specs.Answers.{coded}
-use Rattle.machine.specs.Slots.{emptySlots}
+use Rattle.machine.specs.Effects.{nothing}
 use Rattle.machine.specs.Calls.{Call, setUp}
 use Rattle.machine.specs.Refusals.{refusal}
 use Rattle.machine.specs.Steps.{Result, newMachine, effectOf, pageIn, refused, step}
 use Rattle.machine.specs.Buffers.{wrongPage, wrongSize, asksMachine, badMachine, Outcomes, left, call}
+use Rattle.machine.proofs.Quiet.{quiet-fits}
 use Rattle.runs.proofs.Ways.{codeOf, StepWay, refuses, accepts, step-way, CallWay, sized, bad, steps, call-way, is-long, is-paged}
 use Rattle.runs.proofs.Sound.{Sound}
 use Rattle.runs.proofs.New.{new-sound}
@@ -97,8 +98,8 @@ run-on m h g cs = ap (λ (l : List ℕ). called l cs) (sym (words-back m h)) ∙
 
 module _ (k : Conf) (page : Page) (g : goodNumbers k ≡ true) (p : Paged page) where
   pub set-up-accepted : (M : Machine) → codeOf (setUp k page) M ≡ 0
-  unfolding refusal effectOf messagesOf
-  set-up-accepted M = rw (g, le-ltb (emptySlots (M .slots)) 0 (omega arith))
+  unfolding refusal effectOf
+  set-up-accepted M = rw (g, quiet-fits M nothing)
 
   pub set-up-is : (m : List ℕ) → 4992 ≤ length m → call (setUp k page) m ≡ left (coded 0) [] (words (newMachine k page) (drop 4992 m))
   unfolding call step effectOf

@@ -1,29 +1,28 @@
 -- A sound machine is good, and has the rows and pages that its words have. An effect with a good row and good messages keeps it so.
 use mathlib.Core.Bool.{Bool, true, false, _&&_}
-use mathlib.Core.List.{List, [], _∷_, map, List·Memᴰ, List·Memᴰ·head, List·Memᴰ·tail}
-use mathlib.Core.Path.{_≡_, refl, ap, subst, _∙_}
+use mathlib.Core.List.{List, [], _∷_}
+use mathlib.Core.Path.{_≡_, refl, subst, _∙_}
 use Prim.Native.Nat.{ℕ, suc, _≤_}
 use native.Mathlib.Omega.{arith}
 use borrow.Author.Tests.{ne-eqb}
-use lib.ListN.{length, length-set}
-use Rattle.sets.specs.Sets.{_∈_, members}
-use Rattle.sets.proofs.Members.{members-in}
+use lib.ListN.{length}
+use Rattle.sets.specs.Inner.{_∈_}
 use Rattle.tables.specs.declared.Conf.{Conf}
 use Rattle.tables.specs.declared.Message.{Message}
 use Rattle.tables.specs.Kinds.{senderOf, manyOf}
-use Rattle.tables.specs.Rows.{before, putFirst}
 use Rattle.tables.specs.Tables.{Machine, noPage, noMessage, withSlots, isEmpty}
 use Rattle.tables.specs.Words.{messageWords}
-use Rattle.tables.proofs.All.{All, none, cons, all-map, all-withRow, length-withRow}
-use Rattle.tables.proofs.Lists.{putFirst-set, all-putFirst}
+use Rattle.tables.proofs.All.{All, none, cons, all-map, length-withRow}
 use Rattle.tables.proofs.Whole.{Paged, Stocked, Whole, whole-client, whole-directory, whole-replica, whole-slots}
 use Rattle.inspect.specs.Good.{zeros, eachRow, goodMessage, clientRow, directoryRow, replicaRow, slotRow, goodMachine}
 use Rattle.inspect.proofs.Tests.{and-l, and-r}
-use Rattle.inspect.proofs.Facts.{message-facts, slots-pass}
+use Rattle.inspect.proofs.Facts.{message-facts}
+use Rattle.inspect.proofs.Machines.{slots-pass}
 use Rattle.inspect.proofs.Kept.{good-client, good-directory, good-replica}
 use Rattle.rules.specs.declared.Post.{Post}
 use Rattle.rules.specs.Posts.{toReceiver, messagesOf}
-use Rattle.machine.specs.Slots.{placed, freed}
+use Rattle.machine.specs.Slots.{freed}
+use Rattle.machine.proofs.Places.{all-sent, all-placed, all-freed, length-placed}
 use Rattle.machine.specs.Effects.{Change, nothing, client, directory, replica, Effect, changed, applied}
 
 pub record Sound (M : Machine) : Type 0 where
@@ -69,19 +68,6 @@ module _ (k : Conf) where
   unfolding slotRow messageWords noMessage noPage zeros
   stands-none = record { row = refl; page = refl }
 
-  all-placed : {xs ss : List Message} → All (Stands k) xs → All (Stands k) ss → All (Stands k) (placed xs ss)
-  all-placed none hs = hs
-  all-placed (cons {x} h rest) hs = all-placed rest (all-putFirst isEmpty x h hs)
-
-  all-freed : {ss : List Message} (emptied : List ℕ) → All (Stands k) ss → All (Stands k) (freed emptied ss)
-  all-freed [] hs = hs
-  all-freed (s ∷ emptied) hs = all-withRow s noMessage stands-none (all-freed emptied hs)
-
-length-placed : (xs ss : List Message) → length (placed xs ss) ≡ length ss
-length-placed [] ss = refl
-length-placed (x ∷ xs) ss =
-    length-placed xs (putFirst isEmpty x ss) ∙ ap length (putFirst-set isEmpty x ss) ∙ length-set ss (before isEmpty ss) x
-
 length-freed : (emptied : List ℕ) (ss : List Message) → length (freed emptied ss) ≡ length ss
 length-freed [] ss = refl
 length-freed (s ∷ emptied) ss = length-withRow (freed emptied ss) s noMessage ∙ length-freed emptied ss
@@ -114,15 +100,8 @@ stands-good : (k : Conf) (x : Message) → goodMessage k x ≡ true → Paged (x
 unfolding slotRow
 stands-good k x g p = record { row = rw (some-kind k x g) g; page = p }
 
-all-from : {A B : Type 0} {P : B → Type 0} (f : A → B) (xs : List A) → ((a : A) → List·Memᴰ a xs → P (f a)) → All P (map f xs)
-all-from f [] h = none
-all-from f (x ∷ xs) h = cons (h x (List·Memᴰ·head refl)) (all-from f xs (λ a m. h a (List·Memᴰ·tail m)))
-
-all-sent : {k : Conf} {y : Post} → Sends k y → All (Stands k) (messagesOf y)
-unfolding messagesOf
-all-sent {k} {y} s =
-    all-from (toReceiver (y .message)) (members 16 (y .to))
-    (λ p m. stands-good k (toReceiver (y .message) p) (s .good p (members-in 16 (y .to) p m .2)) (s .page))
+stands-sent : {k : Conf} {y : Post} → Sends k y → All (Stands k) (messagesOf y)
+stands-sent {k} {y} s = all-sent (Stands k) y (λ p m. stands-good k (toReceiver (y .message) p) (s .good p m) (s .page))
 
 -- ---- what is changed
 
@@ -156,4 +135,4 @@ applied-sound {M} {e} z f =
     slots-sound (changed-sound (e .change) z (f .change))
     (length-placed (messagesOf (e .post)) (freed (e .emptied) (M .slots)) ∙ length-freed (e .emptied) (M .slots) ∙ z .whole .slots)
     (rw (changed-conf (e .change) M)
-    (all-placed (M .conf) (all-sent (f .post)) (all-freed (M .conf) (e .emptied) (slots-in (M .conf) (M .slots) (slots-pass M (z .good)) (z .whole .slot-pages)))))
+    (all-placed (Stands (M .conf)) (stands-sent (f .post)) (all-freed (Stands (M .conf)) (e .emptied) (stands-none (M .conf)) (slots-in (M .conf) (M .slots) (slots-pass M (z .good)) (z .whole .slot-pages)))))

@@ -7,14 +7,15 @@ use native.Mathlib.Decide.{decLt}
 use native.Mathlib.Omega.{arith}
 use lib.Dec.{T, eqb, ltb, eqb→eq, nltb→le, T-not}
 use lib.ListN.{length, drop}
-use Rattle.sets.specs.Choice.{if_then_else_}
+use Rattle.sets.specs.Plain.{if_then_else_}
 use Rattle.sets.proofs.Tests.{neither, if-ind}
 use Rattle.tables.specs.declared.Message.{Message}
 use Rattle.tables.specs.declared.Party.{Party}
 use Rattle.tables.specs.declared.Party.the-variants.{Nobody, AClient, ADirectory, AReplica}
 use Rattle.tables.specs.Kinds.{receiverOf}
 use Rattle.tables.specs.Tables.{Page, Machine, clientAt, slotAt}
-use Rattle.tables.specs.Words.{words, machineOf}
+use Rattle.tables.specs.Words.{words}
+use Rattle.tables.specs.Machines.{machineOf}
 use Rattle.rules.specs.declared.Outcome.{Outcome}
 use Rattle.rules.specs.declared.Outcome.the-variants.{Waiting, Next, ReadEnded, WriteEnded, Spent, Stale}
 use Rattle.rules.specs.Answers.{coded, answerOf}

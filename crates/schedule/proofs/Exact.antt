@@ -7,7 +7,7 @@ use native.Mathlib.Omega.{arith}
 use lib.ListN.{length}
 use lib.Dec.{ltb, eqb}
 use borrow.Author.Tests.{le-ltb, ltb-false, eqb-true}
-use Rattle.sets.specs.Choice.{if_then_else_}
+use Rattle.sets.specs.Plain.{if_then_else_}
 use Rattle.sets.proofs.Tests.{T-true, T-false, if-ind}
 use Rattle.schedule.specs.declared.Command.{Command}
 use Rattle.schedule.specs.declared.Command.the-variants.{SetUp, Read, Write, Deliver, Gossip, Tidy, Crash, Malformed}

@@ -1,4 +1,4 @@
--- The laws of digits, lines and pending lines, that a line is a command exactly where it is the command's text, and the paper's example.
+-- The laws of digits, lines and pending lines; Exact: a line is a command exactly where it is the command's text; the paper's example. All but Exact may change freely.
 pub mod Digits
 pub mod Scan
 pub mod Pending

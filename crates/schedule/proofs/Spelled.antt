@@ -8,7 +8,7 @@ use native.Mathlib.Omega.{arith}
 use native.Mathlib.Nat.{pow-suc}
 use lib.Dec.{ltb, leb, eqb}
 use borrow.Author.Tests.{le-leb, ne-eqb, ltb-true, ltb-false, leb-true, eqb-true, eqb-false}
-use Rattle.sets.specs.Choice.{if_then_else_}
+use Rattle.sets.specs.Plain.{if_then_else_}
 use Rattle.sets.proofs.Tests.{T-true, true-T, and-elim}
 use Rattle.schedule.specs.Text.{decimalIn, decimal, fieldsText, Fields}
 use Rattle.schedule.specs.Lines.{Numbers, none, some, push, Place, after, start, inside, digit, numbersOf}

@@ -4,7 +4,7 @@
 use Prim.Native.Nat.{ℕ, zero, suc, _+_, _/_, _%_, _≤_}
 use mathlib.Core.List.{List, [], _∷_, _++_}
 use lib.Dec.{ltb, eqb}
-use Rattle.sets.specs.Choice.{if_then_else_}
+use Rattle.sets.specs.Plain.{if_then_else_}
 use Rattle.schedule.specs.declared.Command.{Command}
 use Rattle.schedule.specs.declared.Command.the-variants.{SetUp, Read, Write, Deliver, Gossip, Tidy, Crash, Malformed}
 

@@ -11,7 +11,8 @@ use lib.Pow.{pow-lt, pow-mono, pow-pos, ones-lt}
 use lib.Bits.{bitOr, or-lt, or-zero-l, or-zero-r, or-self, or-comm}
 use lib.Count.{ones, ones-step, ones-le, ones-ones}
 use lib.Dec.{T, eqb, eqb→eq}
-use Rattle.sets.specs.Sets.{has, _∈_, size, join, only, with, all}
+use Rattle.sets.specs.Sets.{has, size, join, only, with, all}
+use Rattle.sets.specs.Inner.{_∈_}
 use Rattle.sets.proofs.Tests.{or-elim, or-left, or-right}
 use Rattle.sets.proofs.Digits.{digit-low, digit-half, half-lt, pow-half, ones-half, ones-odd, digit-pow, or-low, or-half, or-digit}
 

@@ -14,8 +14,9 @@ use lib.Pow.{shr-shr}
 use lib.ListN.{length}
 use lib.Count.{ones-step}
 use lib.Dec.{T, eqb}
-use Rattle.sets.specs.Choice.{if_then_else_, keep, numbers}
-use Rattle.sets.specs.Sets.{has, _∈_, size, only, all, members}
+use Rattle.sets.specs.Plain.{if_then_else_, keep, numbers}
+use Rattle.sets.specs.Sets.{has, size, only, all, members}
+use Rattle.sets.specs.Inner.{_∈_}
 use Rattle.sets.proofs.Digits.{half-lt, pow-half, pow-even, ones-half, ones-odd}
 use Rattle.sets.proofs.Laws.{size-none}
 

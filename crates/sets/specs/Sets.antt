@@ -1,20 +1,12 @@
 -- "A set of parties is a word in which party p is bit p − 1; its size is the number of ones."
-use mathlib.Core.Bool.{Bool, true, false}
-use mathlib.Core.List.{List}
-use Prim.Native.Nat.{ℕ, zero, suc, _-_, _/_, _%_, _^_}
+use Rattle.sets.specs.Plain.{Bool, false, ℕ, zero, suc, _-_, _/_, _%_, _^_, eqb, List, keep, numbers}
 use lib.Bits.{bitOr}
 use lib.Count.{ones}
-use lib.Dec.{T, eqb}
-use Rattle.sets.specs.Choice.{keep, numbers}
 
 -- party p is in s
 abbrev pub has : ℕ → ℕ → Bool
 has s zero = false
 has s (suc p) = eqb (s / 2 ^ p % 2) 1
-
-infix 20 _∈_
-abbrev pub _∈_ : ℕ → ℕ → Type 0
-p ∈ s = T (has s p)
 
 -- how many parties are in s
 abbrev pub size : ℕ → ℕ

@@ -1,11 +1,8 @@
 -- "A tag is (number, client). Tags compare by number, then client. The first tag is (0,0)."
-use mathlib.Core.Bool.{Bool, true, false, _&&_}
-use Prim.Native.Nat.{ℕ}
-use lib.Dec.{ltb, eqb}
+use Rattle.sets.specs.Plain.{Bool, true, false, _&&_, ℕ, ltb, eqb, if_then_else_}
 use Rattle.sets.specs.declared.Tag.{Tag}
 use Rattle.sets.specs.declared.Order.{Order}
 use Rattle.sets.specs.declared.Order.the-variants.{Lower, Same, Greater}
-use Rattle.sets.specs.Choice.{if_then_else_}
 
 abbrev pub tag : ℕ → ℕ → Tag
 tag n c = record { number = n; client = c }

@@ -6,7 +6,8 @@ use native.Mathlib.Nat.{le-of-suc-le-suc, not-suc-le-zero, mul-le-mul-right, zer
 use native.Mathlib.Omega.{arith}
 use lib.ListN.{length, getD, set, drop}
 use lib.Seq.{drop-append-add, drop-nil}
-use Rattle.tables.specs.Rows.{put, rowsWords, joined}
+use Rattle.tables.specs.Rows.{rowsWords, joined}
+use Rattle.tables.specs.Inner.{put}
 use Rattle.tables.proofs.All.{all-at}
 use Rattle.tables.proofs.Table.{Wide, wider, put-after, put-before, put-all, length-rows, rows-put}
 

@@ -11,7 +11,7 @@ use Rattle.sets.specs.declared.Tag.{Tag}
 use Rattle.tables.specs.declared.Entry.{Entry}
 use Rattle.tables.specs.declared.Message.{Message}
 use Rattle.tables.specs.Tables.{noEntry, noMessage, isEmpty, isFree, hasTag}
-use Rattle.tables.specs.Words.{entryOf, messageOf, entriesOf, machineOf}
+use Rattle.tables.specs.Machines.{entryOf, messageOf, entriesOf, machineOf}
 use Rattle.tables.proofs.Read.{slot-at, entry-at}
 use Rattle.tables.proofs.Parts.{rest-all}
 

@@ -8,9 +8,10 @@ use Rattle.tables.specs.declared.Client.{Client}
 use Rattle.tables.specs.declared.Directory.{Directory}
 use Rattle.tables.specs.declared.Entry.{Entry}
 use Rattle.tables.specs.declared.Message.{Message}
-use Rattle.tables.specs.Rows.{put}
-use Rattle.tables.specs.Tables.{Machine, withClient, withDirectory, withDown, withEntry, withSlot}
-use Rattle.tables.specs.Words.{clientWords, directoryWords, entryWords, messageWords, words, machineOf}
+use Rattle.tables.specs.Inner.{put, withDown, withEntry}
+use Rattle.tables.specs.Tables.{Machine, withClient, withDirectory, withSlot}
+use Rattle.tables.specs.Words.{clientWords, directoryWords, entryWords, messageWords, words}
+use Rattle.tables.specs.Machines.{machineOf}
 use Rattle.tables.proofs.Whole.{Paged, Whole, wholeOf, whole-client, whole-directory, whole-down, whole-entry, whole-slot}
 use Rattle.tables.proofs.Round.{machine-back, words-back, rest-words, length-words, put-client, put-directory, put-down, put-entry, put-slot}
 

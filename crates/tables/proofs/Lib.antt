@@ -1,4 +1,4 @@
--- The laws of the tables: parts, rows and blocks of words, where each row stands, loops over rows, and the round trips between words and machine.
+-- The laws of the tables: parts, rows and blocks of words, where each row stands, loops over rows, and the round trips between words and machine. Empty and the functions' proofs may change freely; the others are cited above.
 pub mod All
 pub mod Parts
 pub mod Table

@@ -8,9 +8,10 @@ use native.Mathlib.Omega.{arith}
 use borrow.Author.Tests.{lt-ltb}
 use lib.Dec.{T, ltb, leb·suc-suc, T-not}
 use lib.ListN.{length, getD, set}
-use Rattle.sets.specs.Choice.{if_then_else_}
+use Rattle.sets.specs.Plain.{if_then_else_}
 use Rattle.sets.proofs.Tests.{false-T, if-ind}
-use Rattle.tables.specs.Rows.{some?, before, putFirst}
+use Rattle.tables.specs.Rows.{some?, putFirst}
+use Rattle.tables.specs.Inner.{before}
 use Rattle.tables.proofs.All.{All, none, cons}
 
 the-rest : (b c : Bool) → T (if b then true else c) → (T b → ⊥) → T c

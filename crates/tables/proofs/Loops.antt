@@ -7,7 +7,8 @@ use native.Mathlib.Numerals.{add-one}
 use native.Mathlib.Omega.{arith}
 use lib.ListN.{length, getD, drop, drop-of-length-le}
 use lib.Seq.{drop-cons}
-use Rattle.tables.specs.Rows.{count, before}
+use Rattle.tables.specs.Rows.{count}
+use Rattle.tables.specs.Inner.{before}
 
 -- ---- a turn at row i of n; t is where the loop ends, d any row
 module _ {A : Type 0} (d : A) (rows : List A) (n : ℕ) (many : length rows ≡ n) (i : ℕ) (h : i < n) where

@@ -7,7 +7,7 @@ use native.Mathlib.Numerals.{add-one}
 use native.Mathlib.Omega.{arith}
 use lib.ListN.{length, getD, set, take, drop, length-append, length-drop, length-set, drop-of-length-le}
 use lib.Seq.{take-all, take-length, take-at, drop-at, drop-drop, take-take, length-take-le}
-use Rattle.tables.specs.Rows.{put}
+use Rattle.tables.specs.Inner.{put}
 
 pub length-put : (l : List ℕ) (at : ℕ) (r : List ℕ) → at + length r ≤ length l → length (put l at r) ≡ length l
 unfolding put

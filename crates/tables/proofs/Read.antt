@@ -8,7 +8,8 @@ use native.Mathlib.Omega.{arith}
 use lib.ListN.{length, getD, take, drop}
 use lib.Seq.{drop-drop, getD-drop, take-add}
 use Rattle.tables.specs.Tables.{noClient, noDirectory, noEntry, noReplica, noMessage}
-use Rattle.tables.specs.Words.{clientWords, directoryWords, entryWords, replicaWords, messageWords, clientOf, directoryOf, entryOf, messageOf, entriesOf, replicasOf, machineOf}
+use Rattle.tables.specs.Words.{clientWords, directoryWords, entryWords, replicaWords, messageWords}
+use Rattle.tables.specs.Machines.{clientOf, directoryOf, entryOf, messageOf, entriesOf, replicasOf, machineOf}
 use Rattle.tables.proofs.Table.{wider, take-cells, getD-cut, part-cut, length-rowsOf, getD-rowsOf, rowsOf-cut, rowsWords-back}
 
 -- ---- a row read and written again is its words

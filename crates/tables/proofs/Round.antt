@@ -10,9 +10,11 @@ use Rattle.tables.specs.declared.Client.{Client}
 use Rattle.tables.specs.declared.Directory.{Directory}
 use Rattle.tables.specs.declared.Entry.{Entry}
 use Rattle.tables.specs.declared.Message.{Message}
-use Rattle.tables.specs.Rows.{put, rowsWords, rowsOf, joined}
-use Rattle.tables.specs.Tables.{Replica, Machine, noReplica, replicaAt, withClient, withDirectory, withDown, withEntry, withSlot}
-use Rattle.tables.specs.Words.{confWords, clientWords, directoryWords, downWords, entryWords, replicaWords, messageWords, confOf, clientOf, directoryOf, entryOf, messageOf, entriesOf, replicasOf, blocks, words, machineOf}
+use Rattle.tables.specs.Rows.{rowsWords, joined}
+use Rattle.tables.specs.Inner.{put, withDown, withEntry}
+use Rattle.tables.specs.Machines.{rowsOf, confOf, clientOf, directoryOf, entryOf, messageOf, entriesOf, replicasOf, machineOf}
+use Rattle.tables.specs.Tables.{Replica, Machine, noReplica, replicaAt, withClient, withDirectory, withSlot}
+use Rattle.tables.specs.Words.{confWords, clientWords, directoryWords, downWords, entryWords, replicaWords, messageWords, blocks, words}
 use Rattle.tables.proofs.All.{All, none, cons, all-of, all-map}
 use Rattle.tables.proofs.Table.{Wide, wider, take-cells, set-put, length-rows, rows-same, rows-set, rowsOf-back, rowsWords-back}
 use Rattle.tables.proofs.Blocks.{offset, joined-drop, block-put, block-set}
@@ -123,7 +125,7 @@ module _ (M : Machine) (t : List ℕ) (z : Whole M) where
   unfolding blocks confWords
   at-gap = rw (z .spare, clients-long, directories-long, downs-long)
 
-  at-replicas : offset (blocks M t) 6 ≡ 240
+  pub at-replicas : offset (blocks M t) 6 ≡ 240
   unfolding blocks confWords
   at-replicas = rw (z .spare, clients-long, directories-long, downs-long, z .gap)
 

@@ -9,8 +9,10 @@ use native.Mathlib.Omega.{arith}
 use borrow.Author.Tests.{ltb-true}
 use lib.Dec.{ltb}
 use lib.ListN.{length, getD, set, take, drop, length-append, length-drop}
-use lib.Seq.{drop-cons, drop-drop, drop-length, drop-at, drop-append-le, drop-append-add, getD-take, length-take-le, set-split, take-add, take-append-le, take-append-add, take-nil, take-take}
-use Rattle.tables.specs.Rows.{put, rowsWords, rowsOf}
+use lib.Seq.{drop-cons, drop-drop, drop-length, drop-at, drop-append-le, drop-append-add, getD-take, set-split, take-add, take-append-le, take-append-add, take-nil, take-take}
+use Rattle.tables.specs.Rows.{rowsWords}
+use Rattle.tables.specs.Inner.{put}
+use Rattle.tables.specs.Machines.{rowsOf}
 use Rattle.tables.proofs.All.{All, none, cons, all-at}
 
 -- ---- words

@@ -10,8 +10,9 @@ use Rattle.tables.specs.declared.Directory.{Directory}
 use Rattle.tables.specs.declared.Entry.{Entry}
 use Rattle.tables.specs.declared.Message.{Message}
 use Rattle.tables.specs.Rows.{row, withRow}
-use Rattle.tables.specs.Tables.{Page, Replica, Machine, noPage, noClient, noEntry, noReplica, noMessage, clientAt, replicaAt, slotAt, withClient, withDirectory, withReplica, withDown, withEntry, withSlots, withSlot}
-use Rattle.tables.specs.Words.{clientOf, entryOf, messageOf, entriesOf, replicasOf, machineOf}
+use Rattle.tables.specs.Tables.{Page, Replica, Machine, noPage, noClient, noEntry, noReplica, noMessage, clientAt, replicaAt, slotAt, withClient, withDirectory, withReplica, withSlots, withSlot}
+use Rattle.tables.specs.Inner.{withDown, withEntry}
+use Rattle.tables.specs.Machines.{clientOf, entryOf, messageOf, entriesOf, replicasOf, machineOf}
 use Rattle.tables.proofs.All.{All, none, cons, all-replicate, all-row, all-withRow, length-withRow}
 use Rattle.tables.proofs.Table.{wider, rowsOf-all}
 use Rattle.tables.proofs.Read.{clients-many, directories-many, replicas-many, slots-many, entries-many}

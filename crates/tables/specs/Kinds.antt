@@ -1,9 +1,5 @@
 -- "Kinds" and "Carried fields": who sends and who receives a message of each kind, and what it carries.
-use mathlib.Core.Bool.{Bool, not}
-use mathlib.Core.List.{List, [], _∷_}
-use Prim.Native.Nat.{ℕ}
-use lib.Dec.{ltb}
-use Rattle.sets.specs.Choice.{if_then_else_, oneOf}
+use Rattle.sets.specs.Plain.{Bool, not, ℕ, ltb, [], _∷_, if_then_else_, oneOf}
 use Rattle.tables.specs.declared.Conf.{Conf}
 use Rattle.tables.specs.declared.Party.{Party}
 use Rattle.tables.specs.declared.Party.the-variants.{Nobody, AClient, ADirectory, AReplica}

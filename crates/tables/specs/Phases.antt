@@ -1,9 +1,5 @@
 -- "Phases: 0 idle, 1 rdr, 2 rdw, 3 rrr, 4 wdr, 5 wrw, 6 wdw": the fields of a client's row that each uses.
-use mathlib.Core.Bool.{Bool, not}
-use mathlib.Core.List.{List, [], _∷_}
-use Prim.Native.Nat.{ℕ}
-use lib.Dec.{eqb}
-use Rattle.sets.specs.Choice.{if_then_else_, oneOf}
+use Rattle.sets.specs.Plain.{Bool, not, ℕ, eqb, [], _∷_, if_then_else_, oneOf}
 
 abbrev pub isIdle : ℕ → Bool
 isIdle p = eqb p 0

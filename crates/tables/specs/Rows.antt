@@ -1,23 +1,10 @@
--- Rows of words, and lists of rows that count from 1. Nothing of the paper stands here.
-use mathlib.Core.Bool.{Bool, true, false}
-use mathlib.Core.List.{List, [], _∷_, _++_}
-use Prim.Native.Nat.{ℕ, zero, suc, _+_}
-use lib.ListN.{length, getD, set, take, drop}
-use Rattle.sets.specs.Choice.{if_then_else_}
-
--- the words l with the row r written over them from place `at` on
-unfoldable pub put : List ℕ → ℕ → List ℕ → List ℕ
-put l at r = take at l ++ (r ++ drop (at + length r) l)
+-- Words of rows, and lists of rows that count from 1. Nothing of the paper stands here.
+use Rattle.sets.specs.Plain.{Bool, true, false, ℕ, zero, suc, List, [], _∷_, _++_, getD, set, if_then_else_}
 
 -- the words of each record, one row after the other
 unfoldable pub rowsWords : {A : Type 0} → (A → List ℕ) → List A → List ℕ
 rowsWords f [] = []
 rowsWords f (x ∷ xs) = f x ++ rowsWords f xs
-
--- n records, each read from a row of w words
-unfoldable pub rowsOf : {A : Type 0} → (List ℕ → A) → ℕ → ℕ → List ℕ → List A
-rowsOf g zero w l = []
-rowsOf g (suc n) w l = g l ∷ rowsOf g n w (drop w l)
 
 -- lists of words, one after the other
 unfoldable pub joined : List (List ℕ) → List ℕ
@@ -44,11 +31,6 @@ module _ {A : Type 0} where
   abbrev pub count : (A → Bool) → List A → ℕ
   count p [] = 0
   count p (x ∷ xs) = let rest = count p xs in if p x then suc rest else rest
-
-  -- how many rows stand before the first that passes the test
-  abbrev pub before : (A → Bool) → List A → ℕ
-  before p [] = 0
-  before p (x ∷ xs) = let rest = before p xs in if p x then 0 else suc rest
 
   -- x in place of the first row that passes the test
   abbrev pub putFirst : (A → Bool) → A → List A → List A

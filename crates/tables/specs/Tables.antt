@@ -1,9 +1,5 @@
 -- "The tables": the machine as records. Each row has the fields that the paper lists, in its order; a spare word is a field too.
-use mathlib.Core.Bool.{Bool, not, _&&_}
-use mathlib.Core.List.{List}
-use Prim.Native.Nat.{ℕ}
-use lib.Dec.{eqb}
-use lib.ListN.{replicate}
+use Rattle.sets.specs.Plain.{Bool, not, _&&_, ℕ, eqb, List, replicate}
 use Rattle.sets.specs.Tags.{first, same}
 use Rattle.sets.specs.declared.Tag.{Tag}
 use Rattle.tables.specs.declared.Conf.{Conf}
@@ -76,14 +72,6 @@ withDirectory M d x =
 abbrev pub withReplica : Machine → ℕ → Replica → Machine
 withReplica M r x =
     record { conf = M .conf; spare = M .spare; clients = M .clients; directories = M .directories; gap = M .gap; replicas = withRow (M .replicas) r x; slots = M .slots }
-
--- the replica r with another flag, and with another entry e
-abbrev pub withDown : Machine → ℕ → ℕ → Machine
-withDown M r x = withReplica M r (record { down = x; entries = replicaAt M r .entries })
-
-abbrev pub withEntry : Machine → ℕ → ℕ → Entry → Machine
-withEntry M r e x =
-    withReplica M r (record { down = replicaAt M r .down; entries = withRow (replicaAt M r .entries) e x })
 
 abbrev pub withSlots : Machine → List Message → Machine
 withSlots M ss =

@@ -2,9 +2,11 @@
 ghost use mathlib.Core.Path.{_≡_};
 ghost use Prim.Native.Nat.{suc, _≤_, _<_};
 ghost use lib.ListN.{length, drop};
-ghost use Rattle.tables.specs.Rows.{row, withRow};
-ghost use Rattle.tables.specs.Tables.{Replica, noEntry, clientAt, directoryAt, replicaAt, slotAt, withClient, withDirectory, withDown, withEntry, withSlot};
-ghost use Rattle.tables.specs.Words.{words, machineOf};
+ghost use Rattle.tables.specs.Rows.{row};
+ghost use Rattle.tables.specs.Tables.{noEntry, clientAt, directoryAt, replicaAt, slotAt, withClient, withDirectory, withSlot};
+ghost use Rattle.tables.specs.Inner.{withDown, withEntry};
+ghost use Rattle.tables.specs.Words.{words};
+ghost use Rattle.tables.specs.Machines.{machineOf};
 use crate::Client;
 use crate::Directory;
 use crate::Entry;

@@ -2,8 +2,9 @@
 ghost use mathlib.Core.Path.{_≡_};
 ghost use Prim.Native.Nat.{_≤_};
 ghost use lib.ListN.{length, take};
-ghost use Rattle.tables.specs.Rows.{put};
-ghost use Rattle.tables.specs.Words.{confOf, clientWords, clientOf, directoryWords, directoryOf, entryWords, entryOf, messageWords, messageOf};
+ghost use Rattle.tables.specs.Inner.{put};
+ghost use Rattle.tables.specs.Words.{clientWords, directoryWords, entryWords, messageWords};
+ghost use Rattle.tables.specs.Machines.{confOf, clientOf, directoryOf, entryOf, messageOf};
 use crate::Client;
 use crate::Conf;
 use crate::Directory;

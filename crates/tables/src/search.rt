@@ -2,9 +2,10 @@
 ghost use mathlib.Core.Path.{_≡_};
 ghost use Prim.Native.Nat.{_+_, _≤_};
 ghost use lib.ListN.{length, drop};
-ghost use Rattle.tables.specs.Rows.{count, before};
+ghost use Rattle.tables.specs.Rows.{count};
+ghost use Rattle.tables.specs.Inner.{before};
 ghost use Rattle.tables.specs.Tables.{isEmpty, isFree, hasTag};
-ghost use Rattle.tables.specs.Words.{machineOf, entryOf, entriesOf};
+ghost use Rattle.tables.specs.Machines.{machineOf, entryOf, entriesOf};
 use sets::Tag;
 
 // The lowest empty slot from slot `from` on, or 128 where there is none.
@@ -58,7 +59,7 @@ pub fn has_tag(row: &[u32], t: Tag) -> bool
     requires { ⌜ 20 ≤ length (now row) ⌝ }
     ensures { λ r. ⌜ r ≡ hasTag t (entryOf (now (row .entry))) ⌝ }
 {
-    !(row[0] == 0) & ((row[1] == t.number) & (row[2] == t.client))
+    (row[1] == t.number) && (row[2] == t.client) & !(row[0] == 0)
 }
 
 // The lowest entry of a replica's 240 words that has the tag, or 12 where there is none.

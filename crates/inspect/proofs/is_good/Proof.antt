@@ -5,7 +5,7 @@ use Prim.Native.Nat.{ℕ}
 use borrow.Author.Tests.{not-true, not-false}
 use lib.ListN.{take, drop}
 use Rattle.tables.specs.declared.Conf.{Conf}
-use Rattle.tables.specs.Words.{confOf, machineOf}
+use Rattle.tables.specs.Machines.{confOf, machineOf}
 use Rattle.inspect.specs.Good.{zeros, eachRow, goodNumbers, clientRow, directoryRow, replicaRow, slotRow, goodMachine, good}
 use Rattle.inspect.specs.Inner.{Few}
 use Rattle.inspect.proofs.Facts.{few}

@@ -1,14 +1,13 @@
-use mathlib.Core.Path.{_≡_, refl, sym, _∙_}
+use mathlib.Core.Path.{_≡_}
 use mathlib.Core.Bool.{Bool, true, false, not, or-false}
 use mathlib.Core.List.{List}
 use Prim.Native.Nat.{ℕ, _≤_}
-use native.Mathlib.Omega.{arith}
 use borrow.Author.Needs.{needs}
 use borrow.Author.Tests.{le-ltb}
 use lib.Dec.{ltb}
 use lib.ListN.{length}
-use Rattle.sets.specs.Choice.{if_then_else_}
-use Rattle.tables.specs.Words.{machineOf}
+use Rattle.sets.specs.Plain.{if_then_else_}
+use Rattle.tables.specs.Machines.{machineOf}
 use Rattle.inspect.specs.Good.{good}
 use Rattle.machine.specs.declared.Counts.{Counts}
 use Rattle.machine.specs.Buffers.{reported}

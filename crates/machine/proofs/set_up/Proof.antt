@@ -1,27 +1,23 @@
-use mathlib.Core.Path.{_≡_, refl, sym, ap, _∙_}
-use mathlib.Core.Bool.{Bool, true, false, not, _||_, false≢true}
+use mathlib.Core.Path.{_≡_, refl, _∙_}
+use mathlib.Core.Bool.{true, false, not, _||_}
 use mathlib.Core.List.{List, []}
 use Prim.Native.Nat.{ℕ, _≤_}
 use native.Mathlib.Omega.{arith}
 use borrow.Author.Needs.{needs}
-use borrow.Author.Tests.{ltb-false, eqb-true, not-false}
 use lib.Dec.{ltb, eqb}
 use lib.ListN.{length, take}
 use lib.Seq.{take-all}
 use Rattle.tables.specs.declared.Conf.{Conf}
-use Rattle.tables.specs.Words.{machineOf}
+use Rattle.tables.specs.Machines.{machineOf}
 use Rattle.rules.specs.declared.Answer.{Answer}
 use Rattle.rules.specs.Answers.{coded}
 use Rattle.machine.specs.Calls.{setUp}
 use Rattle.machine.specs.Steps.{step}
 use Rattle.machine.specs.Buffers.{call, Gives}
 use Rattle.machine.specs.Inner.{Took}
+use Rattle.machine.proofs.Steps.{long-enough, page-whole}
 use Rattle.machine.proofs.set_up.Statement.{statement}
 use Rattle.machine.proofs.set_up.Tie as tie
-
-no-either : (a b : Bool) → a || b ≡ false → (a ≡ false) × (b ≡ false)
-no-either true b e = absurd (false≢true (sym e))
-no-either false b e = (refl, e)
 
 module _ (m page : List ℕ) where
   size : (k : Conf) (a : Answer) → ltb (length m) 4992 || not (eqb (length page) 16) ≡ true → a ≡ coded 16 → Gives (call (setUp k page) m) a [] m
@@ -29,24 +25,18 @@ module _ (m page : List ℕ) where
   size k a h q = rw h (record { answer = q; page = refl; buffer = refl })
 
   module _ (h : ltb (length m) 4992 || not (eqb (length page) 16) ≡ false) where
-    long : 4992 ≤ length m
-    long = ltb-false (length m) 4992 (no-either (ltb (length m) 4992) (not (eqb (length page) 16)) h .0)
-
-    paged : length page ≡ 16
-    paged = eqb-true (length page) 16 (not-false (eqb (length page) 16) (no-either (ltb (length m) 4992) (not (eqb (length page) 16)) h .1))
-
     page-fits : 16 ≤ length page
-    page-fits = omega (arith, paged)
+    page-fits = omega (arith, page-whole m (length page) h)
 
     done : (k : Conf) (a : Answer) (p l : List ℕ) → p ≡ take 16 page → Took (step (setUp k p) (machineOf m)) a [] m l → Gives (call (setUp k page) m) a [] l
     unfolding call
     done k a p l e t =
-        let same : p ≡ page = e ∙ take-all 16 page (omega (arith, paged)) in
+        let same : p ≡ page = e ∙ take-all 16 page (omega (arith, page-whole m (length page) h)) in
         let t′ : Took (step (setUp k page) (machineOf m)) a [] m l = rw same at t in
         rw h (record { answer = t′ .answer; page = t′ .page; buffer = t′ .buffer })
 
 pub set-up-spec : {M : Type 1} → statement M
 set-up-spec =
     tie.close
-    (tie.spec (λ c κs. search needs) (λ c. search size) (λ c κs. search page-fits) (λ c κs. search long)
+    (tie.spec (λ c κs. search needs) (λ c. search size) (λ c κs. search page-fits) (λ c κs. search long-enough)
     (λ c. search needs) (λ c. search done))

@@ -3,14 +3,13 @@ use mathlib.Core.List.{List, []}
 use Prim.Native.Nat.{ℕ}
 use borrow.Author.Needs.{needs}
 use Rattle.tables.specs.Tables.{noPage}
-use Rattle.tables.specs.Words.{machineOf}
+use Rattle.tables.specs.Machines.{machineOf}
 use Rattle.rules.specs.declared.Answer.{Answer}
 use Rattle.machine.specs.Calls.{startRead}
 use Rattle.machine.specs.Buffers.{call, Gives}
 use Rattle.machine.specs.Inner.{stateOf, Took, startStep}
 use Rattle.machine.proofs.Started.{start-read}
-use Rattle.machine.proofs.Steps.{is-ready, call-taken}
-use Rattle.machine.proofs.Pageless.{refused-by-state}
+use Rattle.machine.proofs.Steps.{is-ready, call-refused, call-taken}
 use Rattle.machine.proofs.start_read.Statement.{statement}
 use Rattle.machine.proofs.start_read.Tie as tie
 
@@ -21,5 +20,5 @@ begun m c s a p l e z q t = call-taken m 16 s e (startRead c) refl refl a [] l z
 pub start-read-spec : {M : Type 1} → statement M
 start-read-spec =
     tie.close
-    (tie.spec (λ c κs. search needs) (λ c κs. search needs) (λ c. search needs) (λ c. search refused-by-state)
+    (tie.spec (λ c κs. search needs) (λ c κs. search needs) (λ c. search needs) (λ c. search call-refused)
     (λ c κs. search needs) (λ c κs. search is-ready) (λ c. search needs) (λ c. search begun))

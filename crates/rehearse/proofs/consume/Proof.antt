@@ -2,7 +2,7 @@ use Prim.Native.Nat.{_+_, _-_, _≤_}
 use mathlib.Core.Path.{_≡_}
 use borrow.Author.Needs.{needs}
 use lib.ListN.{length}
-use Rattle.sets.specs.Choice.{if_then_else_}
+use Rattle.sets.specs.Plain.{if_then_else_}
 use Rattle.rehearse.proofs.Turns.{less}
 use Rattle.rehearse.proofs.consume.Statement.{statement}
 use Rattle.rehearse.proofs.consume.Tie as tie

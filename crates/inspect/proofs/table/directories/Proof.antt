@@ -2,7 +2,7 @@ use Prim.Native.Nat.{_+_, _*_, _-_, _≤_}
 use native.Mathlib.Omega.{arith}
 use borrow.Author.Needs.{needs}
 use Rattle.tables.specs.Tables.{noDirectory}
-use Rattle.tables.specs.Words.{directoryOf, machineOf}
+use Rattle.tables.specs.Machines.{directoryOf, machineOf}
 use Rattle.tables.proofs.Read.{directory-at, directories-many, directory-cut}
 use Rattle.inspect.specs.Good.{directoryRow}
 use Rattle.inspect.proofs.Each.{Passed, each-end, table-more}

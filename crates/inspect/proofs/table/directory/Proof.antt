@@ -3,10 +3,11 @@ use mathlib.Core.List.{List}
 use mathlib.Core.Path.{_≡_, _∙_}
 use Prim.Native.Nat.{ℕ}
 use borrow.Author.Needs.{needs}
-use Rattle.sets.specs.Choice.{if_then_else_}
+use Rattle.sets.specs.Plain.{if_then_else_}
 use Rattle.tables.specs.declared.Conf.{Conf}
 use Rattle.tables.specs.declared.Directory.{Directory}
-use Rattle.tables.specs.Words.{directoryOf, directoryWords}
+use Rattle.tables.specs.Words.{directoryWords}
+use Rattle.tables.specs.Machines.{directoryOf}
 use Rattle.tables.proofs.Read.{directory-words}
 use Rattle.inspect.specs.Good.{zeros, goodDirectory}
 use Rattle.inspect.specs.Inner.{FewIn}

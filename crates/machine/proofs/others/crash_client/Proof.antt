@@ -1,5 +1,5 @@
 use mathlib.Core.Path.{_≡_, sym, ap}
-use mathlib.Core.Bool.{Bool, true, false, not}
+use mathlib.Core.Bool.{Bool, false, not}
 use mathlib.Core.List.{List, []}
 use Prim.Native.Nat.{ℕ, suc, _-_}
 use borrow.Author.Needs.{needs}
@@ -7,7 +7,8 @@ use lib.ListN.{drop}
 use Rattle.tables.specs.declared.Conf.{Conf}
 use Rattle.tables.specs.declared.Client.{Client}
 use Rattle.tables.specs.Tables.{clientAt, withClient}
-use Rattle.tables.specs.Words.{confOf, words, machineOf}
+use Rattle.tables.specs.Words.{words}
+use Rattle.tables.specs.Machines.{confOf, machineOf}
 use Rattle.inspect.specs.Good.{between}
 use Rattle.rules.specs.declared.Answer.{Answer}
 use Rattle.rules.specs.Answers.{coded}

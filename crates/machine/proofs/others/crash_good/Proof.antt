@@ -2,7 +2,7 @@ use mathlib.Core.Path.{_≡_}
 use mathlib.Core.List.{List, []}
 use Prim.Native.Nat.{ℕ}
 use borrow.Author.Needs.{needs}
-use Rattle.tables.specs.Words.{machineOf}
+use Rattle.tables.specs.Machines.{machineOf}
 use Rattle.rules.specs.declared.Answer.{Answer}
 use Rattle.machine.specs.Calls.{crash}
 use Rattle.machine.specs.Steps.{step}

@@ -7,19 +7,18 @@ use borrow.Author.Needs.{needs}
 use borrow.Author.Tests.{not-false, eq-eqb, ne-eqb}
 use lib.Dec.{leb, eqb}
 use lib.ListN.{drop}
-use Rattle.sets.specs.Sets.{size, only}
+use Rattle.sets.specs.Sets.{size}
 use Rattle.sets.proofs.Laws.{only-lt}
 use Rattle.tables.specs.declared.Conf.{Conf}
 use Rattle.tables.specs.declared.Party.the-variants.{AReplica}
 use Rattle.tables.specs.Tables.{replicaAt, withSlots}
-use Rattle.tables.specs.Words.{confOf, words, machineOf}
+use Rattle.tables.specs.Words.{words}
+use Rattle.tables.specs.Machines.{confOf, machineOf}
 use Rattle.inspect.specs.Good.{between, isParty}
 use Rattle.inspect.proofs.Tests.{le-by}
-use Rattle.inspect.proofs.Facts.{numbers-facts}
 use Rattle.rules.specs.declared.Answer.{Answer}
 use Rattle.rules.specs.declared.Post.{Post}
 use Rattle.rules.specs.Answers.{coded}
-use Rattle.rules.specs.Inner.{Sender}
 use Rattle.rules.specs.Posts.{messagesOf}
 use Rattle.rules.specs.Replica.{gossipPost}
 use Rattle.machine.specs.Slots.{placed, emptySlots}
@@ -28,8 +27,8 @@ use Rattle.machine.specs.Calls.{gossip, gossipEffect}
 use Rattle.machine.specs.Refusals.{refusal}
 use Rattle.machine.specs.Steps.{effectOf, step}
 use Rattle.machine.specs.Inner.{Ready, Took, Gossips, twoOf}
-use Rattle.machine.proofs.Parties.{ready-numbers}
-use Rattle.machine.proofs.Rooms.{no-room, has-room}
+use Rattle.machine.proofs.Parties.{numbers-of}
+use Rattle.machine.proofs.Rooms.{no-slot}
 use Rattle.machine.proofs.Steps.{took-refused, took-accepted}
 use Rattle.machine.proofs.others.gossip_good.Statement.{statement}
 use Rattle.machine.proofs.others.gossip_good.Tie as tie
@@ -68,7 +67,7 @@ module _ (m : List ℕ) (g : Ready m) (from to : ℕ) (k : Conf) (at : k ≡ con
 
   module _ (h : not b ≡ false) where
     seven : k .replicas ≤ 7
-    seven = numbers-facts k (ready-numbers m g k at) .few-replicas
+    seven = numbers-of m (g .fine) k at .few-replicas
 
     place : from - 1 < 7
     place = omega (arith, seven, low from to (k .replicas) b e h, high from to (k .replicas) b e h)
@@ -105,7 +104,7 @@ module _ (m : List ℕ) (g : Ready m) (from to : ℕ) (k : Conf) (at : k ≡ con
           unfolding refusal effectOf gossipEffect
           full x q =
               took-refused (gossip from to) m 24 a (g .long) (λ x. omega arith)
-              (rw (test-is, h, own-down, ne-eqb _ _ up, post-is, no-room (machineOf m) nothing p few r y x)) q
+              (rw (test-is, h, own-down, ne-eqb _ _ up, post-is, no-slot (machineOf m) nothing p few r y, x)) q
 
           done : (l : List ℕ) → not r ≡ false → a ≡ coded 0
               → l ≡ words (withSlots (machineOf m) (placed (messagesOf p) (machineOf m .slots))) (drop 4992 m)
@@ -113,7 +112,7 @@ module _ (m : List ℕ) (g : Ready m) (from to : ℕ) (k : Conf) (at : k ≡ con
           unfolding refusal effectOf gossipEffect
           done l x q t =
               took-accepted (gossip from to) m l [] a
-              (rw (test-is, h, own-down, ne-eqb _ _ up, post-is, has-room (machineOf m) nothing p few r y x)) q refl (rw post-is t)
+              (rw (test-is, h, own-down, ne-eqb _ _ up, post-is, no-slot (machineOf m) nothing p few r y, x)) q refl (rw post-is t)
 
 pub gossip-good-spec : {M : Type 1} → statement M
 gossip-good-spec =

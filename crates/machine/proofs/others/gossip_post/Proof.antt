@@ -4,7 +4,7 @@ use Prim.Native.Nat.{ℕ, suc, _+_, _*_, _-_, _<_}
 use borrow.Author.Needs.{needs}
 use lib.ListN.{length, take, drop}
 use Rattle.tables.specs.Tables.{replicaAt}
-use Rattle.tables.specs.Words.{entriesOf, machineOf}
+use Rattle.tables.specs.Machines.{entriesOf, machineOf}
 use Rattle.rules.specs.declared.Post.{Post}
 use Rattle.rules.specs.Replica.{gossipPost}
 use Rattle.machine.proofs.Stored.{entries-in}

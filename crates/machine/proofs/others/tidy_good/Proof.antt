@@ -1,4 +1,4 @@
-use mathlib.Core.Path.{_≡_, refl, sym, ap, subst, _∙_}
+use mathlib.Core.Path.{_≡_, refl, sym, ap, _∙_}
 use mathlib.Core.Bool.{Bool, true, false, not}
 use mathlib.Core.List.{List, []}
 use Prim.Native.Nat.{ℕ, suc, _-_}
@@ -9,7 +9,8 @@ use lib.ListN.{drop}
 use Rattle.tables.specs.declared.Conf.{Conf}
 use Rattle.tables.specs.declared.Party.the-variants.{AReplica}
 use Rattle.tables.specs.Tables.{replicaAt}
-use Rattle.tables.specs.Words.{confOf, words, machineOf}
+use Rattle.tables.specs.Words.{words}
+use Rattle.tables.specs.Machines.{confOf, machineOf}
 use Rattle.inspect.specs.Good.{between, isParty}
 use Rattle.rules.specs.declared.Answer.{Answer}
 use Rattle.rules.specs.Answers.{coded}

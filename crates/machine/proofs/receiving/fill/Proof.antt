@@ -6,7 +6,7 @@ use native.Mathlib.Omega.{arith}
 use lib.ListN.{length}
 use Rattle.sets.specs.declared.Tag.{Tag}
 use Rattle.tables.specs.declared.Message.{Message}
-use Rattle.tables.specs.Rows.{put}
+use Rattle.tables.specs.Inner.{put}
 use Rattle.tables.proofs.Table.{put-all}
 use Rattle.rules.specs.declared.Outcome.{Outcome}
 use Rattle.rules.specs.declared.Outcome.the-variants.{ReadEnded}

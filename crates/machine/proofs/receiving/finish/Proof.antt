@@ -4,7 +4,8 @@ use Prim.Native.Nat.{ℕ, suc, _≤_}
 use borrow.Author.Needs.{needs}
 use lib.ListN.{length, drop, set}
 use Rattle.tables.specs.Tables.{noMessage, withSlots, withSlot}
-use Rattle.tables.specs.Words.{words, machineOf}
+use Rattle.tables.specs.Words.{words}
+use Rattle.tables.specs.Machines.{machineOf}
 use Rattle.tables.proofs.Whole.{wholeOf, whole-slot, blank-message}
 use Rattle.tables.proofs.Holds.{holds-start, holds-machine, holds-rest, holds-step}
 use Rattle.rules.specs.declared.Post.{Post}

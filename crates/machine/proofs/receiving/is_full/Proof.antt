@@ -7,7 +7,7 @@ use lib.ListN.{length, take, drop}
 use Rattle.tables.specs.declared.Entry.{Entry}
 use Rattle.tables.specs.declared.Message.{Message}
 use Rattle.tables.specs.Tables.{replicaAt}
-use Rattle.tables.specs.Words.{entriesOf, machineOf}
+use Rattle.tables.specs.Machines.{entriesOf, machineOf}
 use Rattle.rules.specs.Replica.{isFull}
 use Rattle.machine.proofs.Stored.{entries-in}
 use Rattle.machine.proofs.receiving.is_full.Statement.{statement}

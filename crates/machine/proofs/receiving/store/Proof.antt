@@ -6,10 +6,13 @@ use lib.ListN.{length, take, drop}
 use Rattle.tables.specs.declared.Entry.{Entry}
 use Rattle.tables.specs.declared.Message.{Message}
 use Rattle.tables.specs.Tables.{replicaAt, withReplica}
-use Rattle.tables.specs.Words.{entriesOf, withEntries, words, machineOf}
+use Rattle.tables.specs.Words.{words}
+use Rattle.tables.specs.Machines.{entriesOf, machineOf}
+use Rattle.tables.specs.Inner.{withEntries}
 use Rattle.rules.specs.Replica.{replicaAfter}
+use Rattle.rules.proofs.Every.{stock-after}
 use Rattle.machine.specs.Inner.{stocked}
-use Rattle.machine.proofs.Stored.{entries-back, stock-after, stock-in}
+use Rattle.machine.proofs.Stored.{entries-back, stock-in}
 use Rattle.machine.proofs.receiving.store.Statement.{statement}
 use Rattle.machine.proofs.receiving.store.Tie as tie
 

@@ -4,7 +4,8 @@ use Prim.Native.Nat.{ℕ, suc}
 use borrow.Author.Needs.{needs}
 use lib.ListN.{drop}
 use Rattle.tables.specs.Tables.{noMessage, withSlot}
-use Rattle.tables.specs.Words.{words, machineOf}
+use Rattle.tables.specs.Words.{words}
+use Rattle.tables.specs.Machines.{machineOf}
 use Rattle.rules.specs.declared.Post.{Post}
 use Rattle.rules.specs.Posts.{noPost}
 use Rattle.machine.proofs.send.empty_slot.Statement.{statement}

@@ -1,7 +1,7 @@
 use Prim.Native.Nat.{_-_, _≤_}
 use borrow.Author.Needs.{needs}
 use lib.ListN.{drop}
-use Rattle.tables.specs.Words.{machineOf}
+use Rattle.tables.specs.Machines.{machineOf}
 use Rattle.tables.proofs.Holds.{Holds, holds-start, holds-long}
 use Rattle.machine.specs.Inner.{withDirectories}
 use Rattle.machine.proofs.Laid.{directory-more, directories-end, holds-same}

@@ -1,18 +1,18 @@
 use mathlib.Core.Bool.{true}
 use mathlib.Core.Path.{_≡_}
 use Prim.Native.Nat.{_≤_}
-use native.Mathlib.Omega.{arith}
 use borrow.Author.Needs.{needs}
 use Rattle.tables.specs.declared.Conf.{Conf}
 use Rattle.inspect.specs.Good.{goodNumbers}
 use Rattle.inspect.proofs.Facts.{numbers-facts}
+use Rattle.machine.proofs.Parties.{few-sets}
 use Rattle.machine.proofs.Laid.{laid}
 use Rattle.machine.proofs.setting.lay_out.Statement.{statement}
 use Rattle.machine.proofs.setting.lay_out.Tie as tie
 
 module _ (k : Conf) (g : goodNumbers k ≡ true) where
   fits : k .replicas ≤ 31
-  fits = let f = numbers-facts k g in omega arith
+  fits = few-sets k g .replicas
 
   five : k .directories ≤ 5
   five = numbers-facts k g .few-directories

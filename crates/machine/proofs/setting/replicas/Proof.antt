@@ -2,7 +2,7 @@ use mathlib.Core.Path.{_≡_}
 use Prim.Native.Nat.{_-_, _≤_}
 use borrow.Author.Needs.{needs}
 use lib.ListN.{length, drop}
-use Rattle.tables.specs.Words.{machineOf}
+use Rattle.tables.specs.Machines.{machineOf}
 use Rattle.tables.proofs.Holds.{Holds, holds-start, holds-long}
 use Rattle.machine.specs.Inner.{withReplicas}
 use Rattle.machine.proofs.Laid.{replica-more, replicas-end, holds-same}

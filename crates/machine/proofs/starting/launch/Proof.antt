@@ -1,7 +1,8 @@
 use mathlib.Core.Path.{_≡_}
 use borrow.Author.Needs.{needs}
 use lib.ListN.{length}
-use Rattle.machine.proofs.Started.{few-sets, launch-few, launch-full, launched}
+use Rattle.machine.proofs.Parties.{few-sets}
+use Rattle.machine.proofs.Started.{launch-few, launch-full, launched}
 use Rattle.machine.proofs.starting.launch.Statement.{statement}
 use Rattle.machine.proofs.starting.launch.Tie as tie
 

@@ -5,9 +5,9 @@ use Prim.Native.Nat.{ℕ}
 use borrow.Author.Needs.{needs}
 use lib.Dec.{ltb, eqb}
 use Rattle.tables.specs.declared.Message.{Message}
-use Rattle.tables.specs.Rows.{before}
+use Rattle.tables.specs.Inner.{before}
 use Rattle.tables.specs.Tables.{isFree, hasTag}
-use Rattle.tables.specs.Words.{entriesOf}
+use Rattle.tables.specs.Machines.{entriesOf}
 use Rattle.tables.proofs.Lists.{some-before}
 use Rattle.tables.proofs.Read.{entries-many}
 use Rattle.rules.specs.Replica.{isFull}

@@ -6,9 +6,9 @@ use lib.ListN.{getD}
 use Rattle.sets.specs.declared.Tag.{Tag}
 use Rattle.sets.specs.Sets.{only}
 use Rattle.tables.specs.declared.Entry.{Entry}
-use Rattle.tables.specs.Rows.{before}
+use Rattle.tables.specs.Inner.{before}
 use Rattle.tables.specs.Tables.{noEntry, hasTag}
-use Rattle.tables.specs.Words.{entriesOf}
+use Rattle.tables.specs.Machines.{entriesOf}
 use Rattle.rules.specs.declared.Post.{Post}
 use Rattle.rules.specs.Posts.{message, post}
 use Rattle.rules.specs.Replica.{highest, gossipPost}

@@ -3,9 +3,10 @@ use mathlib.Core.List.{List}
 use Prim.Native.Nat.{ℕ, _≤_, _<_}
 use borrow.Author.Needs.{needs}
 use Rattle.sets.specs.declared.Tag.{Tag}
-use Rattle.tables.specs.Rows.{before, putFirst}
+use Rattle.tables.specs.Rows.{putFirst}
+use Rattle.tables.specs.Inner.{before, withEntries}
 use Rattle.tables.specs.Tables.{Page, isFree, hasTag}
-use Rattle.tables.specs.Words.{entriesOf, withEntries}
+use Rattle.tables.specs.Machines.{entriesOf}
 use Rattle.rules.specs.Replica.{entry, secure, hearGossip}
 use Rattle.rules.proofs.Entries.{is-there, not-there}
 use Rattle.rules.proofs.replica.gossip_in.Statement.{statement}

@@ -2,7 +2,7 @@ use mathlib.Core.Path.{_≡_}
 use Prim.Native.Nat.{_≤_}
 use borrow.Author.Needs.{needs}
 use lib.ListN.{drop}
-use Rattle.tables.specs.Words.{entriesOf}
+use Rattle.tables.specs.Machines.{entriesOf}
 use Rattle.rules.specs.Replica.{highest}
 use Rattle.rules.proofs.Entries.{highest-none, highest-more, highest-end}
 use Rattle.rules.proofs.replica.highest_of.Statement.{statement}

@@ -1,9 +1,8 @@
 use mathlib.Core.Path.{_≡_, _∙_}
 use mathlib.Core.List.{List}
 use Prim.Native.Nat.{ℕ}
-use native.Mathlib.Omega.{arith}
 use borrow.Author.Needs.{needs}
-use borrow.Author.Tests.{eq-eqb, ne-eqb}
+use borrow.Author.Tests.{ne-eqb}
 use Rattle.sets.specs.declared.Tag.{Tag}
 use Rattle.sets.specs.Tags.{first}
 use Rattle.sets.specs.Sets.{only, all}
@@ -13,6 +12,7 @@ use Rattle.tables.specs.Tables.{noPage}
 use Rattle.rules.specs.declared.Post.{Post}
 use Rattle.rules.specs.Posts.{message, post, noPost}
 use Rattle.rules.specs.Replica.{read, replicaPost}
+use Rattle.rules.proofs.Cases.{at}
 use Rattle.rules.proofs.replica.post.Statement.{statement}
 use Rattle.rules.proofs.replica.post.Tie as tie
 
@@ -20,17 +20,16 @@ module _ (nd : ℕ) (es : List Entry) (x : Message) (r : Post) (s : ℕ) where
   answers : (e : Entry) → x .kind ≡ 9 → e ≡ read (x .tag) es → s ≡ only (x .sender)
       → r ≡ post (message 12 (x .receiver) (e .tag) 0 (x .number) (e .page)) s → r ≡ replicaPost nd es x
   unfolding replicaPost
-  answers e k f g q = rw (eq-eqb (x .kind) 9 k, ← f, ← g) q
+  answers e k f g q = simp (at k, ← f, ← g) q
 
   writes : (t : Tag) → x .kind ≡ 10 → t ≡ first → s ≡ only (x .sender) → r ≡ post (message 13 (x .receiver) t 0 (x .number) noPage) s
       → r ≡ replicaPost nd es x
   unfolding replicaPost
-  writes t k f g q = rw (ne-eqb (x .kind) 9 (λ e. omega arith), eq-eqb (x .kind) 10 k, ← g) (q ∙ rw f)
+  writes t k f g q = simp (at k, ← g) (q ∙ rw f)
 
   hears : x .kind ≡ 15 → s ≡ all nd → r ≡ post (message 14 (x .receiver) (x .tag) 0 0 noPage) s → r ≡ replicaPost nd es x
   unfolding replicaPost
-  hears k g q =
-      rw (ne-eqb (x .kind) 9 (λ e. omega arith), ne-eqb (x .kind) 10 (λ e. omega arith), eq-eqb (x .kind) 15 k, ← g) q
+  hears k g q = simp (at k, ← g) q
 
 other : (nd : ℕ) (es : List Entry) (x : Message) (r : Post) → (x .kind ≡ 9 → ⊥) → (x .kind ≡ 10 → ⊥) → (x .kind ≡ 15 → ⊥) → r ≡ noPost → r ≡ replicaPost nd es x
 unfolding replicaPost

@@ -5,9 +5,9 @@ use borrow.Author.Needs.{needs}
 use lib.ListN.{getD}
 use Rattle.sets.specs.declared.Tag.{Tag}
 use Rattle.tables.specs.declared.Entry.{Entry}
-use Rattle.tables.specs.Rows.{before}
+use Rattle.tables.specs.Inner.{before}
 use Rattle.tables.specs.Tables.{noEntry, hasTag}
-use Rattle.tables.specs.Words.{entriesOf}
+use Rattle.tables.specs.Machines.{entriesOf}
 use Rattle.rules.specs.Replica.{highest, read}
 use Rattle.rules.proofs.Entries.{is-there, not-there, entry-with}
 use Rattle.rules.proofs.replica.read_in.Statement.{statement}

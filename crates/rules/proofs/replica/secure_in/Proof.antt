@@ -5,9 +5,9 @@ use borrow.Author.Needs.{needs}
 use lib.ListN.{getD, set}
 use Rattle.sets.specs.declared.Tag.{Tag}
 use Rattle.tables.specs.declared.Entry.{Entry}
-use Rattle.tables.specs.Rows.{before}
+use Rattle.tables.specs.Inner.{before, withEntries}
 use Rattle.tables.specs.Tables.{noEntry, hasTag}
-use Rattle.tables.specs.Words.{entriesOf, withEntries}
+use Rattle.tables.specs.Machines.{entriesOf}
 use Rattle.rules.specs.Replica.{secured, secure}
 use Rattle.rules.proofs.Entries.{secure-set}
 use Rattle.rules.proofs.replica.secure_in.Statement.{statement}

@@ -4,9 +4,10 @@ use Prim.Native.Nat.{ℕ}
 use borrow.Author.Needs.{needs}
 use lib.ListN.{set}
 use Rattle.tables.specs.declared.Entry.{Entry}
-use Rattle.tables.specs.Rows.{before, putFirst}
+use Rattle.tables.specs.Rows.{putFirst}
+use Rattle.tables.specs.Inner.{before, withEntries}
 use Rattle.tables.specs.Tables.{isFree}
-use Rattle.tables.specs.Words.{entriesOf, withEntries}
+use Rattle.tables.specs.Machines.{entriesOf}
 use Rattle.tables.proofs.Lists.{putFirst-set}
 use Rattle.rules.proofs.replica.store.Statement.{statement}
 use Rattle.rules.proofs.replica.store.Tie as tie

@@ -1,4 +1,5 @@
 use borrow.Author.Needs.{needs}
+use Rattle.rules.proofs.Cases.{answer-by, answer-spent}
 use Rattle.rules.proofs.request.answer_of.Statement.{statement}
 use Rattle.rules.proofs.request.answer_of.Tie as tie
 
@@ -7,4 +8,4 @@ answer-of-spec =
     tie.close
     (tie.spec (λ c κs. search needs) (λ c. search needs) (λ c κs. search needs) (λ c. search needs)
     (λ c κs. search needs) (λ c. search needs) (λ c. search needs) (λ c. search needs) (λ c. search needs)
-    (λ c κs. search needs) (λ c. cc) (λ c. cc) (λ c. cc) (λ c. cc) (λ c. cc) (λ c. cc))
+    (λ c κs. search needs) (λ c. search answer-by) (λ c. search answer-by) (λ c. search answer-by) (λ c. search answer-by) (λ c. search answer-spent) (λ c. search answer-by))

@@ -3,7 +3,7 @@ use mathlib.Core.List.{map}
 use Prim.Native.Nat.{_-_, _≤_}
 use borrow.Author.Needs.{needs}
 use lib.ListN.{length}
-use Rattle.tables.specs.Words.{entriesOf}
+use Rattle.tables.specs.Machines.{entriesOf}
 use Rattle.tables.proofs.Parts.{Copied, copied-none}
 use Rattle.rules.specs.Inner.{mark}
 use Rattle.rules.proofs.Marks.{marked-more, marked-all}

@@ -2,12 +2,12 @@ use mathlib.Core.Path.{_≡_}
 use mathlib.Core.List.{List}
 use Prim.Native.Nat.{ℕ}
 use borrow.Author.Needs.{needs}
-use Rattle.sets.specs.Choice.{if_then_else_}
+use Rattle.sets.specs.Plain.{if_then_else_}
 use Rattle.sets.specs.declared.Tag.{Tag}
 use Rattle.sets.specs.declared.Order.{Order}
 use Rattle.sets.specs.Tags.{against, isLower}
 use Rattle.tables.specs.declared.Entry.{Entry}
-use Rattle.tables.specs.Words.{entryOf}
+use Rattle.tables.specs.Machines.{entryOf}
 use Rattle.rules.specs.Inner.{mark}
 use Rattle.rules.proofs.tidy.goes.Statement.{statement}
 use Rattle.rules.proofs.tidy.goes.Tie as tie

@@ -1,10 +1,10 @@
 use mathlib.Core.Path.{_≡_, _∙_}
-use mathlib.Core.List.{List}
 use mathlib.Core.List.{List, map}
 use Prim.Native.Nat.{ℕ}
 use borrow.Author.Needs.{needs}
 use Rattle.sets.specs.declared.Tag.{Tag}
-use Rattle.tables.specs.Words.{entriesOf, withEntries}
+use Rattle.tables.specs.Machines.{entriesOf}
+use Rattle.tables.specs.Inner.{withEntries}
 use Rattle.rules.specs.Replica.{highest, tidied}
 use Rattle.rules.specs.Inner.{mark, freeMarked}
 use Rattle.rules.proofs.Marks.{free-marks}

@@ -5,7 +5,7 @@ use Prim.Native.Nat.{ℕ, _+_, _*_, _-_, _<_}
 use lib.ListN.{length, getD, take, drop}
 use Rattle.tables.specs.declared.Client.{Client}
 use Rattle.tables.specs.Tables.{noClient}
-use Rattle.tables.specs.Words.{clientOf, machineOf}
+use Rattle.tables.specs.Machines.{clientOf, machineOf}
 use Rattle.tables.proofs.Parts.{rest-all}
 use Rattle.tables.proofs.Read.{client-at}
 use Rattle.tables.proofs.places.client.Statement.{statement}

@@ -5,7 +5,7 @@ use Prim.Native.Nat.{ℕ, _+_, _*_, _-_, _<_}
 use lib.ListN.{length, getD, take, drop}
 use Rattle.tables.specs.declared.Directory.{Directory}
 use Rattle.tables.specs.Tables.{noDirectory}
-use Rattle.tables.specs.Words.{directoryOf, machineOf}
+use Rattle.tables.specs.Machines.{directoryOf, machineOf}
 use Rattle.tables.proofs.Parts.{rest-all}
 use Rattle.tables.proofs.Read.{directory-at}
 use Rattle.tables.proofs.places.directory.Statement.{statement}

@@ -4,7 +4,7 @@ use mathlib.Core.List.{List}
 use Prim.Native.Nat.{ℕ, _+_, _<_}
 use lib.ListN.{getD}
 use Rattle.tables.specs.Tables.{noReplica}
-use Rattle.tables.specs.Words.{machineOf}
+use Rattle.tables.specs.Machines.{machineOf}
 use Rattle.tables.proofs.Read.{replica-at}
 use Rattle.tables.proofs.places.down.Statement.{statement}
 use Rattle.tables.proofs.places.down.Tie as tie

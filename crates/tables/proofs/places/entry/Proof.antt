@@ -6,7 +6,7 @@ use lib.ListN.{length, getD, take, drop}
 use lib.Seq.{drop-drop}
 use Rattle.tables.specs.declared.Entry.{Entry}
 use Rattle.tables.specs.Tables.{noEntry, noReplica}
-use Rattle.tables.specs.Words.{entryOf, machineOf}
+use Rattle.tables.specs.Machines.{entryOf, machineOf}
 use Rattle.tables.proofs.Parts.{rest-all}
 use Rattle.tables.proofs.Read.{replica-at, entry-at}
 use Rattle.tables.proofs.places.entry.Statement.{statement}

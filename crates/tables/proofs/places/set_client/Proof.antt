@@ -4,9 +4,10 @@ use mathlib.Core.List.{List, _++_}
 use Prim.Native.Nat.{ℕ, suc, _+_, _*_, _-_, _≤_, _<_}
 use lib.ListN.{length, take, drop}
 use Rattle.tables.specs.declared.Client.{Client}
-use Rattle.tables.specs.Rows.{put}
+use Rattle.tables.specs.Inner.{put}
 use Rattle.tables.specs.Tables.{withClient}
-use Rattle.tables.specs.Words.{clientWords, words, machineOf}
+use Rattle.tables.specs.Words.{clientWords, words}
+use Rattle.tables.specs.Machines.{machineOf}
 use Rattle.tables.proofs.Parts.{put-rest}
 use Rattle.tables.proofs.Holds.{holds-start, holds-client}
 use Rattle.tables.proofs.places.set_client.Statement.{statement}

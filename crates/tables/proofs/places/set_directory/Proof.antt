@@ -4,9 +4,10 @@ use mathlib.Core.List.{List, _++_}
 use Prim.Native.Nat.{ℕ, suc, _+_, _*_, _-_, _≤_, _<_}
 use lib.ListN.{length, take, drop}
 use Rattle.tables.specs.declared.Directory.{Directory}
-use Rattle.tables.specs.Rows.{put}
+use Rattle.tables.specs.Inner.{put}
 use Rattle.tables.specs.Tables.{withDirectory}
-use Rattle.tables.specs.Words.{directoryWords, words, machineOf}
+use Rattle.tables.specs.Words.{directoryWords, words}
+use Rattle.tables.specs.Machines.{machineOf}
 use Rattle.tables.proofs.Parts.{put-rest}
 use Rattle.tables.proofs.Holds.{holds-start, holds-directory}
 use Rattle.tables.proofs.places.set_directory.Statement.{statement}

@@ -3,8 +3,9 @@ use mathlib.Core.Path.{_≡_, refl}
 use mathlib.Core.List.{List}
 use Prim.Native.Nat.{ℕ, suc, _+_, _≤_, _<_}
 use lib.ListN.{length, set, drop}
-use Rattle.tables.specs.Tables.{withDown}
-use Rattle.tables.specs.Words.{words, machineOf}
+use Rattle.tables.specs.Inner.{withDown}
+use Rattle.tables.specs.Words.{words}
+use Rattle.tables.specs.Machines.{machineOf}
 use Rattle.tables.proofs.Holds.{holds-start, holds-down}
 use Rattle.tables.proofs.places.set_down.Statement.{statement}
 use Rattle.tables.proofs.places.set_down.Tie as tie

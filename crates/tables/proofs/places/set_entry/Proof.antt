@@ -4,9 +4,9 @@ use mathlib.Core.List.{List, _++_}
 use Prim.Native.Nat.{ℕ, suc, _+_, _*_, _-_, _≤_, _<_}
 use lib.ListN.{length, take, drop}
 use Rattle.tables.specs.declared.Entry.{Entry}
-use Rattle.tables.specs.Rows.{put}
-use Rattle.tables.specs.Tables.{withEntry}
-use Rattle.tables.specs.Words.{entryWords, words, machineOf}
+use Rattle.tables.specs.Inner.{put, withEntry}
+use Rattle.tables.specs.Words.{entryWords, words}
+use Rattle.tables.specs.Machines.{machineOf}
 use Rattle.tables.proofs.Parts.{put-rest}
 use Rattle.tables.proofs.Holds.{holds-start, holds-entry}
 use Rattle.tables.proofs.places.set_entry.Statement.{statement}

@@ -5,7 +5,7 @@ use Prim.Native.Nat.{ℕ, _+_, _*_, _-_, _<_}
 use lib.ListN.{length, getD, take, drop}
 use Rattle.tables.specs.declared.Message.{Message}
 use Rattle.tables.specs.Tables.{noMessage}
-use Rattle.tables.specs.Words.{messageOf, machineOf}
+use Rattle.tables.specs.Machines.{messageOf, machineOf}
 use Rattle.tables.proofs.Parts.{rest-all}
 use Rattle.tables.proofs.Read.{slot-at}
 use Rattle.tables.proofs.places.slot.Statement.{statement}

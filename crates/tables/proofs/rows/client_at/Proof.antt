@@ -1,5 +1,5 @@
 use borrow.Author.Needs.{needs}
-use Rattle.tables.specs.Words.{clientOf}
+use Rattle.tables.specs.Machines.{clientOf}
 use Rattle.tables.proofs.Parts.{take-twice}
 use Rattle.tables.proofs.rows.client_at.Statement.{statement}
 use Rattle.tables.proofs.rows.client_at.Tie as tie

@@ -1,5 +1,5 @@
 use mathlib.Core.Path.{refl}
-use Rattle.tables.specs.Words.{confOf}
+use Rattle.tables.specs.Machines.{confOf}
 use borrow.Author.Needs.{needs}
 use Rattle.tables.proofs.rows.conf_at.Statement.{statement}
 use Rattle.tables.proofs.rows.conf_at.Tie as tie

@@ -1,5 +1,5 @@
 use mathlib.Core.Path.{refl}
-use Rattle.tables.specs.Words.{directoryOf}
+use Rattle.tables.specs.Machines.{directoryOf}
 use borrow.Author.Needs.{needs}
 use Rattle.tables.proofs.rows.directory_at.Statement.{statement}
 use Rattle.tables.proofs.rows.directory_at.Tie as tie

@@ -1,5 +1,5 @@
 use borrow.Author.Needs.{needs}
-use Rattle.tables.specs.Words.{entryOf}
+use Rattle.tables.specs.Machines.{entryOf}
 use Rattle.tables.proofs.Parts.{take-twice}
 use Rattle.tables.proofs.rows.entry_at.Statement.{statement}
 use Rattle.tables.proofs.rows.entry_at.Tie as tie

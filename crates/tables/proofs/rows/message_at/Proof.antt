@@ -1,5 +1,5 @@
 use borrow.Author.Needs.{needs}
-use Rattle.tables.specs.Words.{messageOf}
+use Rattle.tables.specs.Machines.{messageOf}
 use Rattle.tables.proofs.Parts.{take-twice}
 use Rattle.tables.proofs.rows.message_at.Statement.{statement}
 use Rattle.tables.proofs.rows.message_at.Tie as tie

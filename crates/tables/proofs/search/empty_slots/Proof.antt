@@ -6,7 +6,7 @@ use borrow.Author.Needs.{needs}
 use lib.ListN.{drop}
 use Rattle.tables.specs.Rows.{count}
 use Rattle.tables.specs.Tables.{noMessage, isEmpty}
-use Rattle.tables.specs.Words.{machineOf}
+use Rattle.tables.specs.Machines.{machineOf}
 use Rattle.tables.proofs.Read.{slots-many}
 use Rattle.tables.proofs.Loops.{counted, not-counted, counted-all}
 use Rattle.tables.proofs.Empty.{slot-empty, slot-taken}

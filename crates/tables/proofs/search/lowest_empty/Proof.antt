@@ -2,9 +2,9 @@ use mathlib.Core.Path.{_≡_}
 use Prim.Native.Nat.{_+_, _-_, _≤_}
 use borrow.Author.Needs.{needs}
 use lib.ListN.{drop}
-use Rattle.tables.specs.Rows.{before}
+use Rattle.tables.specs.Inner.{before}
 use Rattle.tables.specs.Tables.{noMessage, isEmpty}
-use Rattle.tables.specs.Words.{machineOf}
+use Rattle.tables.specs.Machines.{machineOf}
 use Rattle.tables.proofs.Read.{slots-many}
 use Rattle.tables.proofs.Loops.{found, further, missing}
 use Rattle.tables.proofs.Empty.{slot-empty, slot-taken}

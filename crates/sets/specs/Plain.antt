@@ -1,8 +1,11 @@
--- The choice by a test, and plain functions of lists. Nothing of the paper stands here.
-use mathlib.Core.Bool.{Bool, true, false, _||_}
-use mathlib.Core.List.{List, [], _∷_}
-use Prim.Native.Nat.{ℕ, zero, suc}
-use lib.Dec.{eqb}
+-- Truth values, numbers and lists under one roof, the choice by a test, and plain functions of lists. Nothing of the paper stands here.
+pub use mathlib.Core.Bool.{Bool, true, false, not, _&&_, _||_}
+pub use mathlib.Core.Path.{_≡_}
+pub use mathlib.Core.Logic.{_⊎_}
+pub use mathlib.Core.List.{List, [], _∷_, _++_, map, List·Memᴰ}
+pub use Prim.Native.Nat.{ℕ, zero, suc, _+_, _-_, _*_, _/_, _%_, _^_, _<_}
+pub use lib.Dec.{T, leb, ltb, eqb}
+pub use lib.ListN.{length, getD, set, replicate, take, drop}
 
 infixr 10 if_then_else_
 abbrev pub if_then_else_ : {A : Type 0} → Bool → A → A → A

@@ -1,0 +1,83 @@
+-- The machine of words, row by row. Of a buffer of 4,992 words or more it is the one machine that has these words: theorems `words-back` and `machine-back` (proofs/Round).
+use Rattle.sets.specs.Plain.{ℕ, zero, suc, List, [], _∷_, getD, take, drop}
+use Rattle.sets.specs.Tags.{tag}
+use Rattle.tables.specs.declared.Conf.{Conf}
+use Rattle.tables.specs.declared.Client.{Client}
+use Rattle.tables.specs.declared.Directory.{Directory}
+use Rattle.tables.specs.declared.Entry.{Entry}
+use Rattle.tables.specs.declared.Message.{Message}
+use Rattle.tables.specs.Tables.{Replica, Machine}
+
+-- ---- the row that words begin with
+
+unfoldable pub confOf : List ℕ → Conf
+confOf l =
+    record {
+      clients = getD l 0 0;
+      directories = getD l 1 0;
+      replicas = getD l 2 0;
+      f = getD l 3 0;
+      rq = getD l 4 0;
+      wq = getD l 5 0;
+      top = getD l 6 0;
+    }
+
+unfoldable pub clientOf : List ℕ → Client
+clientOf l =
+    record {
+      down = getD l 0 0;
+      phase = getD l 1 0;
+      number = getD l 2 0;
+      answered = getD l 3 0;
+      replicas = getD l 4 0;
+      tag = tag (getD l 5 0) (getD l 6 0);
+      spare = getD l 7 0;
+      page = take 16 (drop 8 l);
+    }
+
+unfoldable pub directoryOf : List ℕ → Directory
+directoryOf l = record { down = getD l 0 0; tag = tag (getD l 1 0) (getD l 2 0); set = getD l 3 0 }
+
+unfoldable pub entryOf : List ℕ → Entry
+entryOf l = record { state = getD l 0 0; tag = tag (getD l 1 0) (getD l 2 0); spare = getD l 3 0; page = take 16 (drop 4 l) }
+
+unfoldable pub messageOf : List ℕ → Message
+messageOf l =
+    record {
+      kind = getD l 0 0;
+      sender = getD l 1 0;
+      receiver = getD l 2 0;
+      tag = tag (getD l 3 0) (getD l 4 0);
+      set = getD l 5 0;
+      number = getD l 6 0;
+      spare = getD l 7 0;
+      page = take 16 (drop 8 l);
+    }
+
+-- n records, each read from a row of w words
+unfoldable pub rowsOf : {A : Type 0} → (List ℕ → A) → ℕ → ℕ → List ℕ → List A
+rowsOf g zero w l = []
+rowsOf g (suc n) w l = g l ∷ rowsOf g n w (drop w l)
+
+-- 12 entries of 20
+unfoldable pub entriesOf : List ℕ → List Entry
+entriesOf l = rowsOf entryOf 12 20 l
+
+-- n replicas: a flag each, and 240 words each
+unfoldable pub replicasOf : ℕ → List ℕ → List ℕ → List Replica
+replicasOf zero flags l = []
+replicasOf (suc n) flags l = record { down = getD flags 0 0; entries = entriesOf l } ∷ replicasOf n (drop 1 flags) (drop 240 l)
+
+-- ---- the whole
+
+unfoldable pub machineOf : List ℕ → Machine
+machineOf m =
+    record {
+      conf = confOf m;
+      spare = take 9 (drop 7 m);
+      clients = rowsOf clientOf 8 24 (drop 16 m);
+      directories = rowsOf directoryOf 5 4 (drop 208 m);
+      gap = take 5 (drop 235 m);
+      replicas = replicasOf 7 (drop 228 m) (drop 240 m);
+      slots = rowsOf messageOf 128 24 (drop 1920 m);
+    }
