@@ -1,10 +1,10 @@
 -- The paper's rehearsal as the events of its run: the theorem speaks of something.
-use mathlib.Core.Path.{_≡_, refl}
+use mathlib.Core.Path.{_≡_, refl, ap, _∙_}
 use mathlib.Core.List.{List, [], _∷_}
 use Prim.Native.Nat.{ℕ}
 use lib.Count.{ones, onesIn}
 use lib.ListN.{replicate}
-use Rattle.sets.specs.Tags.{against}
+use Rattle.sets.specs.Tags.{tag, against}
 use Rattle.tables.specs.declared.Conf.{Conf}
 use Rattle.tables.specs.Kinds.{senderOf, receiverOf}
 use Rattle.tables.specs.Tables.{Page, noPage, noClient, noDirectory, noEntry, noReplica, noMessage}
@@ -13,6 +13,8 @@ use Rattle.tables.specs.Machines.{rowsOf, confOf, clientOf, directoryOf, entryO
 use Rattle.tables.specs.Words.{confWords, clientWords, directoryWords, downWords, entryWords, replicaWords, messageWords, blocks, words}
 use Rattle.inspect.specs.Good.{goodNumbers, zeros, goodClient, goodDirectory, goodEntry, tagsOnce, goodReplica, goodMessage, clientRow, directoryRow, replicaRow, slotRow, goodMachine, good}
 use Rattle.machine.specs.Buffers.{call}
+use Rattle.rules.specs.declared.Answer.{Answer}
+use Rattle.rules.specs.Answers.{answer, coded}
 use Rattle.rules.specs.Posts.{messagesOf}
 use Rattle.rules.specs.Quorums.{enoughToRead, enoughToWrite}
 use Rattle.rules.specs.Directory.{directoryAfter, directoryPost}
@@ -22,7 +24,7 @@ use Rattle.machine.specs.Calls.{Call, setUp, startRead, startWrite, deliver, st
 use Rattle.machine.specs.Deliver.{clientEffect, directoryEffect, replicaEffect, deliverEffect}
 use Rattle.machine.specs.Refusals.{refusal}
 use Rattle.machine.specs.Steps.{newMachine, effectOf, step}
-use Rattle.order.specs.Run.{read-begins, write-begins, read-ends, write-ends, nothing, events}
+use Rattle.order.specs.Run.{Event, read-begins, write-begins, read-ends, write-ends, nothing, events}
 use Rattle.history.specs.Show.{eventOf, onBuffer}
 
 -- a page is its first word, and zeros
@@ -39,8 +41,38 @@ rehearsal : List Call
 rehearsal =
     startWrite 1 (page 9) ∷ at 1 ∷ at 1 ∷ at 1 ∷ at 1 ∷ at 1 ∷ at 1 ∷ startRead 1 ∷ at 2 ∷ at 2 ∷ at 2 ∷ at 2 ∷ at 2 ∷ at 2 ∷ startRead 1 ∷ []
 
-rehearsed : events onBuffer (call (setUp small (page 7)) (replicate 4992 0) .buffer) rehearsal
+-- what each call answers, and what the page to fill holds afterwards
+answers : List ℕ → List Call → List (Answer × Page)
+answers m [] = []
+answers m (c ∷ cs) = (call c m .answer, call c m .page) ∷ answers (call c m .buffer) cs
+
+shown : List Call → List (Answer × Page) → List Event
+shown [] l = []
+shown (c ∷ cs) [] = []
+shown (c ∷ cs) (a ∷ l) = eventOf c (a .0) (a .1) ∷ shown cs l
+
+as-shown : (m : List ℕ) (cs : List Call) → events onBuffer m cs ≡ shown cs (answers m cs)
+unfolding events answers shown
+as-shown m [] = refl
+as-shown m (c ∷ cs) = ap (λ l. eventOf c (call c m .answer) (call c m .page) ∷ l) (as-shown (call c m .buffer) cs)
+
+abbrev quiet : Answer × Page
+quiet = (coded 0, page 0)
+
+abbrev begins : Answer × Page
+begins = (coded 0, [])
+
+abbrev start : List ℕ
+start = call (setUp small (page 7)) (replicate 4992 0) .buffer
+
+answered : answers start rehearsal
+    ≡ begins ∷ quiet ∷ quiet ∷ quiet ∷ quiet ∷ quiet ∷ (answer 2 1 (tag 1 1), page 0)
+    ∷ begins ∷ quiet ∷ quiet ∷ quiet ∷ quiet ∷ quiet ∷ (answer 1 1 (tag 1 1), page 9) ∷ (coded 21, []) ∷ []
+unfolding answers call good goodMachine clientRow directoryRow replicaRow slotRow goodClient goodDirectory goodEntry goodReplica goodMessage tagsOnce zeros rowsWords rowsOf joined confWords clientWords directoryWords downWords entryWords replicaWords messageWords confOf clientOf directoryOf entryOf messageOf entriesOf replicasOf blocks words machineOf rehearsal ones onesIn against senderOf receiverOf noPage noClient noDirectory noEntry noReplica noMessage goodNumbers messagesOf enoughToRead enoughToWrite directoryAfter directoryPost entryWith raised highest secure write read replicaAfter replicaPost isFull awaited enoughFor isStale heard chosen turned outcome clientAfter request secures clientPost startEffect clientEffect directoryEffect replicaEffect deliverEffect refusal newMachine effectOf step
+answered = refl
+
+rehearsed : events onBuffer start rehearsal
     ≡ write-begins 1 (page 9) ∷ nothing ∷ nothing ∷ nothing ∷ nothing ∷ nothing ∷ write-ends 1
     ∷ read-begins 1 ∷ nothing ∷ nothing ∷ nothing ∷ nothing ∷ nothing ∷ read-ends 1 (page 9) ∷ nothing ∷ []
-unfolding call good goodMachine clientRow directoryRow replicaRow slotRow goodClient goodDirectory goodEntry goodReplica goodMessage tagsOnce zeros rowsWords rowsOf joined confWords clientWords directoryWords downWords entryWords replicaWords messageWords confOf clientOf directoryOf entryOf messageOf entriesOf replicasOf blocks words machineOf events eventOf rehearsal ones onesIn against senderOf receiverOf noPage noClient noDirectory noEntry noReplica noMessage goodNumbers messagesOf enoughToRead enoughToWrite directoryAfter directoryPost entryWith raised highest secure write read replicaAfter replicaPost isFull awaited enoughFor isStale heard chosen turned outcome clientAfter request secures clientPost startEffect clientEffect directoryEffect replicaEffect deliverEffect refusal newMachine effectOf step
-rehearsed = refl
+unfolding eventOf shown rehearsal
+rehearsed = as-shown start rehearsal ∙ ap (shown rehearsal) answered
