@@ -25,7 +25,7 @@ fn down_rows(m: &[u32], at: usize, w: usize, n: usize) -> u32
 }
 
 // The counts of a machine.
-pub fn report_good(m: &[u32]) -> Counts
+pub(crate) fn report_good(m: &[u32]) -> Counts
     requires { ⌜ 4992 ≤ length (now m) ⌝ }
     ensures { λ r. ⌜ r ≡ counts (machineOf (now (m .entry))) ⌝ }
 {

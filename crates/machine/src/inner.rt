@@ -3,7 +3,7 @@ ghost use mathlib.Core.Path.{_≡_};
 ghost use Rattle.machine.specs.Inner.{stateOf};
 
 // 16, 17 or 0; the call's page has n words, and n is 16 where it has none.
-pub fn state(m: &[u32], n: usize) -> u32
+pub(crate) fn state(m: &[u32], n: usize) -> u32
     ensures { λ r. ⌜ r ≡ stateOf (now (m .entry)) n ⌝ }
 {
     if (m.len() < 4992) | (n != 16) {

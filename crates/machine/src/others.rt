@@ -71,7 +71,7 @@ fn crash_replica(m: &mut [u32], id: u32) -> Answer
 }
 
 // Crash of a party: 1 client, 2 directory, 3 replica.
-pub fn crash_good(m: &mut [u32], kind: u32, id: u32) -> Answer
+pub(crate) fn crash_good(m: &mut [u32], kind: u32, id: u32) -> Answer
     requires { ⌜ Ready (now m) ⌝ }
     ensures { λ r. ⌜ Took (step (crash kind id) (machineOf (now (m .entry)))) r [] (now (m .entry)) (now (m .exit)) ⌝ }
 {
@@ -92,7 +92,7 @@ fn tidy_replica(m: &mut [u32], i: usize)
     rules::tidy::tidy_in(&mut m[at..]);
 }
 
-pub fn tidy_good(m: &mut [u32], r: u32) -> Answer
+pub(crate) fn tidy_good(m: &mut [u32], r: u32) -> Answer
     requires { ⌜ Ready (now m) ⌝ }
     ensures { λ a. ⌜ Took (step (tidy r) (machineOf (now (m .entry)))) a [] (now (m .entry)) (now (m .exit)) ⌝ }
 {
@@ -124,7 +124,7 @@ fn two_of(n: u32, from: u32, to: u32) -> bool
     fields::is_between(1, n, from) & fields::is_between(1, n, to) & (from != to)
 }
 
-pub fn gossip_good(m: &mut [u32], from: u32, to: u32) -> Answer
+pub(crate) fn gossip_good(m: &mut [u32], from: u32, to: u32) -> Answer
     requires { ⌜ Ready (now m) ⌝ }
     ensures { λ r. ⌜ Took (step (gossip from to) (machineOf (now (m .entry)))) r [] (now (m .entry)) (now (m .exit)) ⌝ }
 {

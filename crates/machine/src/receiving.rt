@@ -201,7 +201,7 @@ fn to_client(m: &mut [u32], s: usize, x: Message, page: &mut [u32]) -> Answer
 }
 
 // Deliver, on a machine that is not bad and a page of 16 words.
-pub fn deliver_good(m: &mut [u32], slot: u32, page: &mut [u32]) -> Answer
+pub(crate) fn deliver_good(m: &mut [u32], slot: u32, page: &mut [u32]) -> Answer
     requires { ⌜ Ready (now m) ⌝ }
     requires { ⌜ length (now page) ≡ 16 ⌝ }
     ensures { λ r. ⌜ Took (step (deliver slot (now (page .entry))) (machineOf (now (m .entry)))) r (now (page .exit)) (now (m .entry)) (now (m .exit)) ⌝ }

@@ -16,7 +16,7 @@ use tables::places;
 use tables::search;
 
 // Whether the empty slots, and `more` besides, are enough for a message to each in the set.
-pub fn room(m: &[u32], more: usize, to: u32) -> bool
+pub(crate) fn room(m: &[u32], more: usize, to: u32) -> bool
     requires { ⌜ (4992 ≤ length (now m)) × (more ≤ 1) ⌝ }
     ensures { λ r. ⌜ r ≡ leb (size to) (emptySlots (machineOf (now (m .entry)) .slots) + more) ⌝ }
 {
@@ -28,7 +28,7 @@ pub fn room(m: &[u32], more: usize, to: u32) -> bool
 }
 
 // One message enters the lowest empty slot.
-pub fn enter(m: &mut [u32], x: Message)
+pub(crate) fn enter(m: &mut [u32], x: Message)
     requires { ⌜ 4992 ≤ length (now m) ⌝ }
     ensures { λ _. ⌜ now (m .exit) ≡ words (withSlots (machineOf (now (m .entry))) (putFirst isEmpty x (machineOf (now (m .entry)) .slots))) (drop 4992 (now (m .entry))) ⌝ }
 {
@@ -39,7 +39,7 @@ pub fn enter(m: &mut [u32], x: Message)
 }
 
 // The message to each in the set, in order of receiver.
-pub fn send(m: &mut [u32], y: Post)
+pub(crate) fn send(m: &mut [u32], y: Post)
     requires { ⌜ (4992 ≤ length (now m)) × (y .to < 2 ^ 16) ⌝ }
     ensures { λ _. ⌜ now (m .exit) ≡ words (withSlots (machineOf (now (m .entry))) (placed (messagesOf y) (machineOf (now (m .entry)) .slots))) (drop 4992 (now (m .entry))) ⌝ }
 {
@@ -57,7 +57,7 @@ pub fn send(m: &mut [u32], y: Post)
 }
 
 // Slot s, counted from 0, is emptied.
-pub fn empty_slot(m: &mut [u32], s: usize)
+pub(crate) fn empty_slot(m: &mut [u32], s: usize)
     requires { ⌜ (4992 ≤ length (now m)) × (s < 128) ⌝ }
     ensures { λ _. ⌜ now (m .exit) ≡ words (withSlot (machineOf (now (m .entry))) (suc s) noMessage) (drop 4992 (now (m .entry))) ⌝ }
 {

@@ -92,7 +92,7 @@ fn lay_out(m: &mut [u32], k: Conf, page: [u32; 16])
 }
 
 // Set-up on a buffer that is long enough, whatever it holds.
-pub fn set_up_long(m: &mut [u32], k: Conf, page: [u32; 16]) -> Answer
+pub(crate) fn set_up_long(m: &mut [u32], k: Conf, page: [u32; 16]) -> Answer
     requires { ⌜ 4992 ≤ length (now m) ⌝ }
     ensures { λ r. ⌜ Took (step (setUp k page) (machineOf (now (m .entry)))) r [] (now (m .entry)) (now (m .exit)) ⌝ }
 {

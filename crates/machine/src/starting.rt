@@ -43,7 +43,7 @@ fn launch(m: &mut [u32], k: Conf, c: u32, y: Client) -> Answer
 }
 
 // A start in phase 1 or 4, on a machine that is not bad.
-pub fn start(m: &mut [u32], c: u32, phase: u32, page: [u32; 16]) -> Answer
+pub(crate) fn start(m: &mut [u32], c: u32, phase: u32, page: [u32; 16]) -> Answer
     requires { ⌜ Ready (now m) ⌝ }
     ensures { λ r. ⌜ Took (startStep (machineOf (now (m .entry))) c phase page) r [] (now (m .entry)) (now (m .exit)) ⌝ }
 {
