@@ -1,9 +1,9 @@
 -- What a call shows its caller, by its answer; and the calls on a lent buffer, as `order` reads them.
-use Rattle.sets.specs.Plain.{not, _≡_, ℕ, T, eqb, List, if_then_else_}
+use Rattle.sets.specs.Plain.{_≡_, ℕ, T, eqb, List, if_then_else_}
 use Rattle.tables.specs.Tables.{Page}
 use Rattle.rules.specs.declared.Answer.{Answer}
 use Rattle.machine.specs.Calls.{Call, setUp, startRead, startWrite, deliver, gossip, tidy, crash, report}
-use Rattle.machine.specs.Buffers.{asksMachine, call}
+use Rattle.machine.specs.Buffers.{isSetUp, call}
 use Rattle.order.specs.Run.{Event, read-begins, write-begins, read-ends, write-ends, write-spent, nothing, Calls}
 
 -- 1 READ ENDED with the page filled, 2 WRITE ENDED, 3 SPENT
@@ -27,7 +27,7 @@ eventOf report a p = nothing
 
 -- the call is an accepted set-up: it begins another run
 abbrev pub Renews : Call → Answer → Type 0
-Renews c a = T (not (asksMachine c)) × (a .code ≡ 0)
+Renews c a = T (isSetUp c) × (a .code ≡ 0)
 
 abbrev pub onBuffer : Calls (List ℕ) Call
 onBuffer =

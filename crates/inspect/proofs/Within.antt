@@ -18,8 +18,8 @@ use Rattle.tables.specs.declared.Message.{Message}
 use Rattle.tables.specs.Kinds.{carriesSet, carriesTag, carriesPage, carriesNumber}
 use Rattle.tables.specs.Phases.{isIdle, usesTag, asksDirectories, asksReplicas, usesReplicaSet, usesPage, roundsLeft}
 use Rattle.inspect.specs.declared.limits.Limits.{Limits}
-use Rattle.inspect.specs.Good.{between, zeros, field, goodTag, zeroTag, goodSet, goodClient, goodMessage}
-use Rattle.inspect.specs.Inner.{limit, kindLimits, phaseLimits, limitsWords, limitsOf, limitsTable, tagWithin, clientWithin, messageWithin}
+use Rattle.inspect.specs.Good.{between, zeros, field, goodTag, zeroTag, goodSet, goodClient, goodMessage, tagWithin}
+use Rattle.inspect.specs.Inner.{limit, kindLimits, phaseLimits, limitsWords, limitsOf, limitsTable, clientWithin, messageWithin}
 
 -- ---- tests
 

@@ -48,12 +48,16 @@ goodNumbers k =
     && ltb (k .directories) (k .rq + k .wq)
     && between 3 4294967295 (k .top)
 
--- the number is at most top, the client at most nc, and both are 0 or neither is
-abbrev pub goodTag : Conf → Tag → Bool
-goodTag k t =
-    leb (t .number) (k .top)
-    && leb (t .client) (k .clients)
+-- at most that number and that client, and both are 0 or neither is
+abbrev pub tagWithin : (number client : ℕ) → Tag → Bool
+tagWithin number client t =
+    leb (t .number) number
+    && leb (t .client) client
     && (eqb (t .number) 0 && eqb (t .client) 0 || leb 1 (t .number) && leb 1 (t .client))
+
+-- "a tag number exceeds top or a tag client nc, just one of the two is 0" is bad
+abbrev pub goodTag : Conf → Tag → Bool
+goodTag k t = tagWithin (k .top) (k .clients) t
 
 abbrev pub zeroTag : Tag → Bool
 zeroTag t = eqb (t .number) 0 && eqb (t .client) 0

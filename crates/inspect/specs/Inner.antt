@@ -20,7 +20,7 @@ use Rattle.tables.specs.Tables.{Replica, noEntry, isFree, hasTag}
 use Rattle.tables.specs.Words.{replicaWords}
 use Rattle.tables.specs.Machines.{entriesOf}
 use Rattle.inspect.specs.declared.limits.Limits.{Limits}
-use Rattle.inspect.specs.Good.{between, zeros, eachRow, goodEntry, tagsOnce, goodReplica}
+use Rattle.inspect.specs.Good.{between, zeros, tagWithin, eachRow, goodEntry, tagsOnce, goodReplica}
 
 -- few enough parties for a set in a word, and numbers for an operation's rounds
 pub record Few (k : Conf) : Type 0 where
@@ -133,12 +133,6 @@ abbrev pub phaseTable : Conf → List (List ℕ)
 phaseTable k = limitsTable (phaseLimits k) 0 7
 
 -- ---- within limits; the page is told by its words joined
-
-abbrev pub tagWithin : ℕ → ℕ → Tag → Bool
-tagWithin number client t =
-    leb (t .number) number
-    && leb (t .client) client
-    && (eqb (t .number) 0 && eqb (t .client) 0 || leb 1 (t .number) && leb 1 (t .client))
 
 abbrev pub within : Limits → Tag → ℕ → ℕ → ℕ → ℕ → Bool
 within y t set n spare page =

@@ -2,8 +2,7 @@
 ghost use mathlib.Core.Path.{_≡_};
 ghost use Prim.Native.Nat.{_^_, _≤_};
 ghost use lib.Dec.{eqb};
-ghost use Rattle.inspect.specs.Good.{between, zeros, goodNumbers, goodTag};
-ghost use Rattle.inspect.specs.Inner.{tagWithin};
+ghost use Rattle.inspect.specs.Good.{between, zeros, goodNumbers, goodTag, tagWithin};
 use sets::Tag;
 use tables::Conf;
 

@@ -20,7 +20,7 @@ use Rattle.machine.specs.Effects.{Effect}
 use Rattle.machine.specs.Calls.{Call}
 use Rattle.machine.specs.Refusals.{refusal}
 use Rattle.machine.specs.Steps.{Result, refused, effectOf, pageIn, accepted, step}
-use Rattle.machine.specs.Buffers.{wrongPage, asksMachine, left, call, Gives}
+use Rattle.machine.specs.Buffers.{wrongPage, isSetUp, left, call, Gives}
 use Rattle.machine.specs.Inner.{stateOf, Ready, Took}
 
 module _ (c : Call) (M : Machine) where
@@ -80,7 +80,7 @@ module _ (m : List ℕ) (n s : ℕ) (e : s ≡ stateOf m n) where
   pub is-sixteen : s ≡ 0 → n ≡ 16
   is-sixteen z = page-whole m n (both z .0)
 
-  module _ (c : Call) (w : wrongPage c ≡ not (eqb n 16)) (k : asksMachine c ≡ true) where
+  module _ (c : Call) (w : wrongPage c ≡ not (eqb n 16)) (k : not (isSetUp c) ≡ true) where
     pub call-refused : (a : Answer) (p : List ℕ) → pageIn c ≡ p → (s ≡ 0 → ⊥) → a ≡ coded s → Gives (call c m) a p m
     unfolding call stateOf
     call-refused a p x z h = rw (w, k) (go (ltb (length m) 4992 || not (eqb n 16)) (good m) e)

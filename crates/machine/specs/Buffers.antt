@@ -24,19 +24,19 @@ wrongPage report = false
 abbrev pub wrongSize : Call → List ℕ → Bool
 wrongSize c m = ltb (length m) 4992 || wrongPage c
 
--- 17 BAD MACHINE: "not asked at set-up"
-abbrev pub asksMachine : Call → Bool
-asksMachine (setUp k page) = false
-asksMachine (startRead c) = true
-asksMachine (startWrite c page) = true
-asksMachine (deliver s page) = true
-asksMachine (gossip from to) = true
-asksMachine (tidy r) = true
-asksMachine (crash kind id) = true
-asksMachine report = true
+abbrev pub isSetUp : Call → Bool
+isSetUp (setUp k page) = true
+isSetUp (startRead c) = false
+isSetUp (startWrite c page) = false
+isSetUp (deliver s page) = false
+isSetUp (gossip from to) = false
+isSetUp (tidy r) = false
+isSetUp (crash kind id) = false
+isSetUp report = false
 
+-- 17 BAD MACHINE: "not asked at set-up"
 abbrev pub badMachine : Call → List ℕ → Bool
-badMachine c m = asksMachine c && not (good m)
+badMachine c m = not (isSetUp c) && not (good m)
 
 -- what a call leaves: its answer, the page to fill, the buffer
 pub record Outcomes : Type 0 where

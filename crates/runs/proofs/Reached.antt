@@ -23,7 +23,7 @@ use Rattle.machine.specs.Effects.{nothing}
 use Rattle.machine.specs.Calls.{Call, setUp, startRead, startWrite, deliver, gossip, tidy, crash, report, done, isDown, partyOf, downClient, downed, startEffect, gossipEffect, tidyEffect, crashEffect}
 use Rattle.machine.specs.Deliver.{received, clientEffect, directoryEffect, replicaEffect, deliverEffect}
 use Rattle.machine.specs.Steps.{Result, newMachine, effectOf, accepted, step}
-use Rattle.machine.specs.Buffers.{wrongPage, asksMachine}
+use Rattle.machine.specs.Buffers.{wrongPage, isSetUp}
 use Rattle.runs.proofs.Ways.{codeOf, StepWay, refuses, accepts, step-way, allowed}
 use Rattle.runs.proofs.Sound.{Sound, Fits, Keeps, applied-sound}
 use Rattle.runs.proofs.Sent.{is-between, sends-none}
@@ -140,7 +140,7 @@ module _ {M : Machine} (z : Sound M) where
 -- ---- every call
 
 -- set-up asks nothing of the machine before it
-pub accepted-sound : (c : Call) (M : Machine) → (T (asksMachine c) → Sound M) → T (not (wrongPage c)) → codeOf c M ≡ 0 → Sound (accepted c M (effectOf c M))
+pub accepted-sound : (c : Call) (M : Machine) → (T (not (isSetUp c)) → Sound M) → T (not (wrongPage c)) → codeOf c M ≡ 0 → Sound (accepted c M (effectOf c M))
 unfolding effectOf noPage zeros
 accepted-sound (setUp k page) M z w e =
     new-sound k page (paged page w) (T-true (goodNumbers k) (not-not (goodNumbers k) (allowed (setUp k page) M e .argument)))

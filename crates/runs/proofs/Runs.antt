@@ -24,7 +24,7 @@ use Rattle.machine.specs.Effects.{nothing}
 use Rattle.machine.specs.Calls.{Call, setUp}
 use Rattle.machine.specs.Refusals.{refusal}
 use Rattle.machine.specs.Steps.{Result, newMachine, effectOf, pageIn, refused, step}
-use Rattle.machine.specs.Buffers.{wrongPage, wrongSize, asksMachine, badMachine, Outcomes, left, call}
+use Rattle.machine.specs.Buffers.{wrongPage, wrongSize, isSetUp, badMachine, Outcomes, left, call}
 use Rattle.machine.proofs.Quiet.{quiet-fits}
 use Rattle.runs.proofs.Ways.{codeOf, StepWay, refuses, accepts, step-way, CallWay, sized, bad, steps, call-way, is-long, is-paged}
 use Rattle.runs.proofs.Sound.{Sound}
@@ -127,10 +127,10 @@ later-kept c m = go (call-way c m)
     whole : 4992 ≤ length m → {M : Machine} → Whole M → Beyond m (words M (drop 4992 m))
     whole h {M} w = record { words = rest-words M (drop 4992 m) w; long = length-words M (drop 4992 m) w ∙ rw length-drop (omega arith) }
 
-    sound-before : 4992 ≤ length m → T (not (badMachine c m)) → T (asksMachine c) → Sound (machineOf m)
+    sound-before : 4992 ≤ length m → T (not (badMachine c m)) → T (not (isSetUp c)) → Sound (machineOf m)
     sound-before h b a =
         buffer-sound m h
-        (T-true (good m) (⊎-elim (λ n. absurd (T-not (asksMachine c) n a)) (λ n. not-not (good m) n) (not-both (asksMachine c) (not (good m)) b)))
+        (T-true (good m) (⊎-elim (λ n. absurd (T-not (not (isSetUp c)) n a)) (λ n. not-not (good m) n) (not-both (not (isSetUp c)) (not (good m)) b)))
 
     stepped : T (not (wrongSize c m)) → T (not (badMachine c m)) → {r : Result} → StepWay c (machineOf m) r → Beyond m (words (r .machine) (drop 4992 m))
     stepped n b (refuses _) = whole (is-long c m n) (wholeOf m (is-long c m n))

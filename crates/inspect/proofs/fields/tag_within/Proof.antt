@@ -5,7 +5,7 @@ use native.Mathlib.Omega.{arith}
 use borrow.Author.Tests.{eqb-true, eqb-false, le-leb, lt-leb}
 use lib.Dec.{leb, eqb}
 use Rattle.sets.specs.declared.Tag.{Tag}
-use Rattle.inspect.specs.Inner.{tagWithin}
+use Rattle.inspect.specs.Good.{tagWithin}
 use Rattle.inspect.proofs.fields.tag_within.Statement.{statement}
 use Rattle.inspect.proofs.fields.tag_within.Tie as tie
 
