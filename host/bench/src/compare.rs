@@ -1,4 +1,4 @@
-//! The plain machine and another program on the same schedules, line by line.
+//! The copy of the rules and another program on the same schedules, line by line.
 
 use crate::external;
 use crate::history::lines;
@@ -6,7 +6,7 @@ use crate::order;
 use crate::schedule::schedule;
 use crate::shrink::shorten;
 use crate::tally::Tally;
-use plain::Rehearsal;
+use copy::Rehearsal;
 use std::fmt;
 use std::path::Path;
 
@@ -46,7 +46,7 @@ pub fn compare(seed: u64, lines: usize) -> Result<Tally, Difference> {
 /// Many schedules in one run of the program; each but the first must begin with a set-up.
 pub fn compare_all(program: &Path, schedules: &[Seeded]) -> Result<Tally, Difference> {
     let input: Vec<u8> = schedules.iter().flat_map(|one| one.input.iter().copied()).collect();
-    let expected = plain_output(&input);
+    let expected = copy_output(&input);
     let found = program_output(program, &input);
     if let Some(line) = first_difference(&expected, &found) {
         return Err(narrow(program, schedules, line));
@@ -59,7 +59,7 @@ pub fn compare_all(program: &Path, schedules: &[Seeded]) -> Result<Tally, Differ
     }
 }
 
-pub fn plain_output(input: &[u8]) -> Vec<u8> {
+pub fn copy_output(input: &[u8]) -> Vec<u8> {
     let mut rehearsal = Rehearsal::new();
     let mut out = Vec::with_capacity(2 * input.len());
     rehearsal.feed(input, &mut out);
@@ -90,7 +90,7 @@ fn narrow(program: &Path, schedules: &[Seeded], line: usize) -> Difference {
         at += 1;
     }
     let Seeded { seed, input } = &schedules[at];
-    let differs = |input: &[u8]| first_difference(&plain_output(input), &program_output(program, input)).is_some();
+    let differs = |input: &[u8]| first_difference(&copy_output(input), &program_output(program, input)).is_some();
     let whole: Vec<u8> = schedules[..=at].iter().flat_map(|one| one.input.iter().copied()).collect();
     let input = if differs(input) { input } else { &whole };
     let shortest = shorten(input, differs);
@@ -98,11 +98,11 @@ fn narrow(program: &Path, schedules: &[Seeded], line: usize) -> Difference {
 }
 
 fn shown(program: &Path, input: &[u8]) -> String {
-    let (expected, found) = (plain_output(input), program_output(program, input));
+    let (expected, found) = (copy_output(input), program_output(program, input));
     let Some(at) = first_difference(&expected, &found) else { return "differs now and then".to_string() };
     let text =
         |output: &[u8]| lines(output).nth(at).map_or("nothing".to_string(), |line| line.escape_ascii().to_string());
-    format!("line {}: plain prints \"{}\", the program \"{}\"", at + 1, text(&expected), text(&found))
+    format!("line {}: the copy prints \"{}\", the program \"{}\"", at + 1, text(&expected), text(&found))
 }
 
 fn out_of_line(program: &Path, schedules: &[Seeded], what: String) -> Difference {

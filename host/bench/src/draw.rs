@@ -4,8 +4,8 @@ use crate::history::{History, Kind, Operation};
 use crate::order;
 use crate::story::{ends_of, kind_name, story, Arrow, Fate, Mark, Story};
 use crate::svg::Svg;
-use plain::layout::Party;
-use plain::mail::Message;
+use copy::layout::Party;
+use copy::mail::Message;
 
 const LEFT: f64 = 96.0;
 const RIGHT: f64 = 40.0;

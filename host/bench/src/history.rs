@@ -1,8 +1,8 @@
 //! From lines and answers to operations.
 
-use plain::answer::{DONE, READ_ENDED, WRITE_ENDED, WRITE_SPENT};
-use plain::line::{self, Call};
-use plain::Tag;
+use copy::answer::{DONE, READ_ENDED, WRITE_ENDED, WRITE_SPENT};
+use copy::line::{self, Call};
+use copy::Tag;
 
 #[derive(Clone, Copy, PartialEq, Eq, Debug)]
 pub enum Kind {

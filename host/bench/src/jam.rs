@@ -3,9 +3,9 @@
 
 use crate::prng::Prng;
 use crate::view;
-use plain::layout::{ends, entries_at, Party, Words, ENTRIES, ENTRY_ROW, GOSSIP, SECURE, SLOTS};
-use plain::mail::Message;
-use plain::Numbers;
+use copy::layout::{ends, entries_at, Party, Words, ENTRIES, ENTRY_ROW, GOSSIP, SECURE, SLOTS};
+use copy::mail::Message;
+use copy::Numbers;
 
 pub fn is_for(n: &Numbers) -> bool {
     n.nr == 2 && n.f == 0 && n.nd > 1 && n.nc == 8

@@ -1,7 +1,7 @@
 //! `bench`: makes, runs, compares and draws schedules.
 #![forbid(unsafe_code)]
 
-use bench::compare::{compare_all, plain_output, Seeded};
+use bench::compare::{compare_all, copy_output, Seeded};
 use bench::{draw, external, night, order, schedule};
 use std::io::{self, Write};
 use std::process::ExitCode;
@@ -25,7 +25,7 @@ fn main() -> ExitCode {
 fn run(words: &[&str]) -> Result<(), String> {
     match words {
         ["generate", seed, lines] => print(&schedule(number(seed)?, number(lines)? as usize)),
-        ["rehearse", file] => print(&plain_output(&read(file)?)),
+        ["rehearse", file] => print(&copy_output(&read(file)?)),
         ["check", file, answers] => check(&read(file)?, &read(answers)?),
         ["night", lines] => print(&night::night(number(lines)? as usize)),
         ["soak", minutes] => soak(Duration::from_secs(60 * number(minutes)?)),

@@ -3,9 +3,9 @@
 use crate::odd::set_up_line;
 use crate::prng::Prng;
 use crate::view;
-use plain::layout::{entries_at, ENTRIES, ENTRY_ROW, GOSSIP, SECURE};
-use plain::replica::entries;
-use plain::{Numbers, Rehearsal, Tag, Words};
+use copy::layout::{entries_at, ENTRIES, ENTRY_ROW, GOSSIP, SECURE};
+use copy::replica::entries;
+use copy::{Numbers, Rehearsal, Tag, Words};
 
 const NUMBERS: Numbers = Numbers { nc: 8, nd: 5, nr: 7, f: 3, rq: 3, wq: 3, top: u32::MAX };
 

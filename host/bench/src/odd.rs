@@ -1,8 +1,8 @@
 //! Lines that a machine refuses for its numbers, and lines that are none.
 
 use crate::prng::Prng;
-use plain::line::{parse, Call};
-use plain::Numbers;
+use copy::line::{parse, Call};
+use copy::Numbers;
 
 pub fn set_up_line(n: &Numbers, word: u32) -> String {
     let Numbers { nc, nd, nr, f, rq, wq, top } = n;

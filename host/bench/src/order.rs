@@ -2,7 +2,7 @@
 //! It holds if it keeps the order in time and every read shows the last write before it.
 
 use crate::history::{histories, History, Kind, Operation};
-use plain::Tag;
+use copy::Tag;
 use std::collections::BTreeMap;
 
 /// Checks every history of a schedule and gives back how many operations were set in line.

@@ -1,7 +1,7 @@
 //! The five sorts of schedule. The seed chooses.
 
 use crate::prng::Prng;
-use plain::Numbers;
+use copy::Numbers;
 
 #[derive(Clone, Copy, PartialEq, Eq, Debug)]
 pub enum Profile {

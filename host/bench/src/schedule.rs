@@ -6,8 +6,8 @@ use crate::odd;
 use crate::prng::Prng;
 use crate::profile::{Action, Profile};
 use crate::view;
-use plain::layout::{Party, CLIENT_BASE, CLIENT_ROW, GOSSIP, IDLE};
-use plain::{Numbers, Rehearsal, Shown, Words};
+use copy::layout::{Party, CLIENT_BASE, CLIENT_ROW, GOSSIP, IDLE};
+use copy::{Numbers, Rehearsal, Shown, Words};
 
 /// Which messages are liked for a while: a random order alone seldom leaves anyone behind.
 struct Mood {

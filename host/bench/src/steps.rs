@@ -2,9 +2,9 @@
 //! to other slots, and a delivery must follow its message there.
 
 use crate::view;
-use plain::line::{parse, Call};
-use plain::mail::Message;
-use plain::{Rehearsal, Words};
+use copy::line::{parse, Call};
+use copy::mail::Message;
+use copy::{Rehearsal, Words};
 
 #[derive(Clone, Copy, Debug)]
 pub enum Step<'a> {

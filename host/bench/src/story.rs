@@ -2,11 +2,11 @@
 
 use crate::history::{histories, History};
 use crate::view;
-use plain::answer::{DROPPED, STALE};
-use plain::layout::{ends, Party, SLOTS};
-use plain::line::{parse, Call};
-use plain::mail::Message;
-use plain::{Numbers, Rehearsal, Words};
+use copy::answer::{DROPPED, STALE};
+use copy::layout::{ends, Party, SLOTS};
+use copy::line::{parse, Call};
+use copy::mail::Message;
+use copy::{Numbers, Rehearsal, Words};
 
 #[derive(Clone, Copy, PartialEq, Eq, Debug)]
 pub enum Fate {
@@ -60,7 +60,7 @@ pub fn story(input: &[u8]) -> Result<Story, String> {
         story.columns.push(column);
     }
     story.leave_waiting(machine.words());
-    story.histories = histories(input, &crate::compare::plain_output(input))?;
+    story.histories = histories(input, &crate::compare::copy_output(input))?;
     Ok(story)
 }
 

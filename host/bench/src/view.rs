@@ -1,8 +1,8 @@
 //! What a generator or a picture wants to know of a machine.
 
-use plain::layout::*;
-use plain::mail::{self, Message};
-use plain::{Numbers, Words};
+use copy::layout::*;
+use copy::mail::{self, Message};
+use copy::{Numbers, Words};
 
 pub fn waiting(m: &Words) -> Vec<u32> {
     (1..=SLOTS as u32).filter(|&slot| m[slot_at(slot)] != 0).collect()

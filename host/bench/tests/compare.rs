@@ -1,4 +1,4 @@
-//! The plain machine against the program under test, on a million lines and more.
+//! The copy of the rules against the program under test, on a million lines and more.
 
 use bench::compare::{compare_all, Seeded};
 use bench::tally::Tally;

@@ -1,6 +1,6 @@
 //! The checker of the line refuses what must be refused.
 
-use bench::compare::plain_output;
+use bench::compare::copy_output;
 use bench::order::check;
 use bench::schedule;
 
@@ -95,10 +95,10 @@ fn a_set_up_begins_anew() {
 }
 
 #[test]
-fn plain_keeps_the_line() {
+fn copy_keeps_the_line() {
     for seed in 0..200 {
         let input = schedule(seed, 400);
-        let checked = check(&input, &plain_output(&input));
+        let checked = check(&input, &copy_output(&input));
         assert!(checked.is_ok(), "seed {seed}: {checked:?}");
     }
 }

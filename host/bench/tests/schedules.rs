@@ -1,10 +1,10 @@
 //! What the generator promises, and the picture.
 
-use bench::compare::plain_output;
+use bench::compare::copy_output;
 use bench::history::{lines, Printed};
 use bench::tally::Tally;
 use bench::{cold_schedule, draw, night, schedule};
-use plain::line::{parse, Call};
+use copy::line::{parse, Call};
 use std::collections::HashSet;
 
 #[test]
@@ -15,7 +15,7 @@ fn one_seed_one_schedule() {
         assert_ne!(input, schedule(seed + 1, 300));
         assert_eq!(lines(&input).count(), 300);
         assert!(input.ends_with(b"\n"));
-        assert!(plain_output(&input).starts_with(b"1 0 "), "begins with an accepted set-up");
+        assert!(copy_output(&input).starts_with(b"1 0 "), "begins with an accepted set-up");
     }
 }
 
@@ -39,10 +39,10 @@ fn words_are_distinct() {
 fn schedules_go_deep() {
     let mut tally = Tally::default();
     for seed in 0..500 {
-        tally.add(&plain_output(&schedule(seed, 400)));
+        tally.add(&copy_output(&schedule(seed, 400)));
     }
     for seed in 0..20 {
-        tally.add(&plain_output(&cold_schedule(seed, 20)));
+        tally.add(&copy_output(&cold_schedule(seed, 20)));
     }
     println!("{tally}");
     for code in (0..=5).chain(17..=24) {
@@ -55,7 +55,7 @@ fn schedules_go_deep() {
 #[test]
 fn a_night_is_all_accepted() {
     let input = night::night(5000);
-    let output = plain_output(&input);
+    let output = copy_output(&input);
     assert_eq!(lines(&input).count(), 5000);
     let accepted = |line: &[u8]| Printed::parse(line).is_some_and(|printed| printed.code < 16);
     assert!(lines(&output).all(accepted));

@@ -1,8 +1,8 @@
 //! Machines laid out by hand.
 #![allow(dead_code)]
 
-use plain::layout::*;
-use plain::{set_up, Numbers};
+use copy::layout::*;
+use copy::{set_up, Numbers};
 
 pub fn page(word: u32) -> [u32; 16] {
     let mut page = [0; 16];

@@ -2,9 +2,9 @@
 
 mod common;
 use common::*;
-use plain::answer::*;
-use plain::layout::*;
-use plain::{deliver, start_write, Answer, Tag};
+use copy::answer::*;
+use copy::layout::*;
+use copy::{deliver, start_write, Answer, Tag};
 
 /// Client 1 as phase, number, answered set, replica set and tag.
 fn put_client(m: &mut [u32], row: [u32; 6]) {
@@ -20,7 +20,7 @@ fn slot(m: &[u32], slot: u32) -> &[u32] {
 }
 
 fn waiting(m: &mut [u32]) -> u32 {
-    plain::report(m).waiting
+    copy::report(m).waiting
 }
 
 #[test]

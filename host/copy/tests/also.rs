@@ -2,9 +2,9 @@
 
 mod common;
 use common::*;
-use plain::answer::*;
-use plain::layout::*;
-use plain::{crash, deliver, gossip, report, set_up, start_read, start_write, tidy, Report};
+use copy::answer::*;
+use copy::layout::*;
+use copy::{crash, deliver, gossip, report, set_up, start_read, start_write, tidy, Report};
 
 fn set_up_code(nc: u32, nd: u32, nr: u32, f: u32, rq: u32, wq: u32, top: u32) -> u32 {
     set_up(&mut vec![0; WORDS], numbers(nc, nd, nr, f, rq, wq, top), &[0; 16]).code

@@ -2,9 +2,9 @@
 
 mod common;
 use common::*;
-use plain::answer::*;
-use plain::layout::*;
-use plain::{deliver, tidy, Tag};
+use copy::answer::*;
+use copy::layout::*;
+use copy::{deliver, tidy, Tag};
 
 /// Example directory D: (3,1), {1,2}, f = 1, nr = 3.
 fn with_d() -> Vec<u32> {
@@ -77,7 +77,7 @@ fn tidy_10_and_11() {
 fn write_after(number: u32) -> (u32, u32, u32) {
     let mut m = machine(1, 1, 1, 0, 1, 1, 3);
     m[DIRECTORY_BASE + 1..DIRECTORY_BASE + 3].copy_from_slice(&[number, 1]);
-    assert_eq!(plain::start_write(&mut m, 1, &page(9)).code, DONE);
+    assert_eq!(copy::start_write(&mut m, 1, &page(9)).code, DONE);
     assert_eq!(deliver(&mut m, 1, &mut [0; 16]).code, DONE);
     let answer = deliver(&mut m, 1, &mut [0; 16]);
     let spent = answer.code == WRITE_SPENT;

@@ -3,25 +3,25 @@
 use std::io::{Read, Write};
 use std::process::{Command, Stdio};
 
-fn plain(input: &[u8]) -> String {
-    let mut child = Command::new(env!("CARGO_BIN_EXE_plain"))
+fn copy_output(input: &[u8]) -> String {
+    let mut child = Command::new(env!("CARGO_BIN_EXE_copy"))
         .stdin(Stdio::piped())
         .stdout(Stdio::piped())
         .spawn()
-        .expect("plain starts");
+        .expect("the copy starts");
     let mut stdin = child.stdin.take().expect("piped");
     let input = input.to_vec();
     let writer = std::thread::spawn(move || stdin.write_all(&input));
     let mut out = String::new();
     child.stdout.take().expect("piped").read_to_string(&mut out).expect("text comes back");
     writer.join().expect("writer ends").expect("all input is taken");
-    assert!(child.wait().expect("plain ends").success());
+    assert!(child.wait().expect("the copy ends").success());
     out
 }
 
 /// Code of each line printed.
 fn codes(input: &[u8]) -> Vec<u32> {
-    let text = plain(input);
+    let text = copy_output(input);
     let code = |line: &str| line.split(' ').nth(1).and_then(|field| field.parse().ok());
     text.lines().map(|line| code(line).expect("a code")).collect()
 }
@@ -32,17 +32,17 @@ fn worked_example() {
     let expected = "1 0 0 0 0 0\n2 0 0 0 0 0\n3 0 0 0 0 0\n4 0 0 0 0 0\n5 0 0 0 0 0\n6 0 0 0 0 0\n\
         7 0 0 0 0 0\n8 2 1 1 1 0\n9 0 0 0 0 0\n10 0 0 0 0 0\n11 0 0 0 0 0\n12 0 0 0 0 0\n\
         13 0 0 0 0 0\n14 0 0 0 0 0\n15 1 1 1 1 9\n16 21 0 0 0 0\n";
-    assert_eq!(plain(input.as_bytes()), expected);
+    assert_eq!(copy_output(input.as_bytes()), expected);
 }
 
 #[test]
 fn empty_input_prints_nothing() {
-    assert_eq!(plain(b""), "");
+    assert_eq!(copy_output(b""), "");
 }
 
 #[test]
 fn last_line_without_end() {
-    assert_eq!(plain(b"S 1 1 1 0 1 1 6 7"), "1 18 0 0 0 0\n");
+    assert_eq!(copy_output(b"S 1 1 1 0 1 1 6 7"), "1 18 0 0 0 0\n");
     assert_eq!(codes(b"S 1 1 1 0 1 1 6 7\nR 1"), [0, 18]);
     // The machine was not called, so the client is still idle.
     assert_eq!(codes(b"S 1 1 1 0 1 1 6 7\nR 1\nR 1\n"), [0, 0, 20]);
@@ -100,18 +100,18 @@ fn lines_of_any_length() {
 
 #[test]
 fn a_reader_that_goes_away_ends_it() {
-    let mut child = Command::new(env!("CARGO_BIN_EXE_plain"))
+    let mut child = Command::new(env!("CARGO_BIN_EXE_copy"))
         .stdin(Stdio::piped())
         .stdout(Stdio::piped())
         .stderr(Stdio::piped())
         .spawn()
-        .expect("plain starts");
+        .expect("the copy starts");
     drop(child.stdout.take());
     let mut stdin = child.stdin.take().expect("piped");
     // Writing fails once the program is gone; either way it must end by itself.
     while stdin.write_all(&b"R 1\n".repeat(10_000)).is_ok() {}
     let mut errors = String::new();
     child.stderr.take().expect("piped").read_to_string(&mut errors).expect("text");
-    assert!(child.wait().expect("plain ends").success());
+    assert!(child.wait().expect("the copy ends").success());
     assert_eq!(errors, "");
 }

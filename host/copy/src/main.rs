@@ -1,17 +1,17 @@
-//! `plain`: reads a schedule on standard input, prints a line for each line.
+//! `copy`: reads a schedule on standard input, prints a line for each line.
 #![forbid(unsafe_code)]
 
-use plain::Rehearsal;
+use copy::Rehearsal;
 use std::io::{self, ErrorKind, Read, Write};
 
 const CHUNK: usize = 1 << 16;
 
 fn main() {
     // A reader that went away is no error of the schedule, so the end is quiet.
-    let _ = copy(&mut io::stdin().lock(), &mut io::stdout().lock());
+    let _ = rehearse(&mut io::stdin().lock(), &mut io::stdout().lock());
 }
 
-fn copy(input: &mut impl Read, output: &mut impl Write) -> io::Result<()> {
+fn rehearse(input: &mut impl Read, output: &mut impl Write) -> io::Result<()> {
     let mut rehearsal = Rehearsal::new();
     let mut chunk = vec![0; CHUNK];
     let mut out = Vec::with_capacity(2 * CHUNK);
