@@ -4,6 +4,7 @@ ghost use Prim.Native.Nat.{_≤_};
 ghost use lib.ListN.{length};
 use libc::STDIN_FILENO;
 use libc::STDOUT_FILENO;
+use tables::BASE;
 
 mod number; // number.rt: decimal fields
 mod sample; // sample.rt: the two machines
@@ -19,6 +20,13 @@ fn answer(ok: bool, text: &[u8]) {
     io::write_all(STDOUT_FILENO, b"\n");
 }
 
+// The verdict on the machine as it is.
+fn is_good(m: &[u32]) -> bool
+    requires { ⌜ 4992 ≤ length (now m) ⌝ }
+{
+    inspect::is_good(BASE, m)
+}
+
 // The verdict on the machine with one word changed.
 fn with_word(m: &mut [u32], place: usize, value: u32) -> bool
     requires { ⌜ 4992 ≤ length (now m) ⌝ }
@@ -26,7 +34,7 @@ fn with_word(m: &mut [u32], place: usize, value: u32) -> bool
     if place < 4992 {
         let old = m[place];
         m[place] = value;
-        let ok = inspect::is_good(m);
+        let ok = is_good(m);
         m[place] = old;
         return ok;
     }
@@ -42,12 +50,12 @@ fn respond(m: &mut [u32], line: &[u8])
     }
     if line[0] == b'u' {
         sample::after_set_up(m);
-        answer(inspect::is_good(m), &line[1..]);
+        answer(is_good(m), &line[1..]);
         return;
     }
     if line[0] == b'r' {
         sample::every_row(m);
-        answer(inspect::is_good(m), &line[1..]);
+        answer(is_good(m), &line[1..]);
         return;
     }
     let place = number::field(line, 0);

@@ -1,7 +1,9 @@
 // Two good machines, laid out so that each way of being bad is one word away.
 ghost use Prim.Native.Nat.{_≤_, _<_};
 ghost use lib.ListN.{length};
+use mail::slots;
 use sets::Tag;
+use tables::BASE;
 use tables::Client;
 use tables::Directory;
 use tables::Entry;
@@ -33,7 +35,7 @@ fn put_entry(m: &mut [u32], i: usize, e: usize, state: u32, t: Tag)
         spare: 0,
         page: [7u32; 16],
     };
-    places::set_entry(m, i, e, x);
+    places::set_entry(BASE, m, i, e, x);
 }
 
 // A secured first page at the first n replicas.
@@ -58,7 +60,7 @@ fn same_directories(m: &mut [u32], n: usize, t: Tag, set: u32)
             tag: t,
             set,
         };
-        places::set_directory(m, i, d);
+        places::set_directory(BASE, m, i, d);
         i += 1;
     }
 }
@@ -97,7 +99,7 @@ fn put_client(
         spare: 0,
         page,
     };
-    places::set_client(m, i, x);
+    places::set_client(BASE, m, i, x);
 }
 
 // Clients 1 to 4: idle and the phases of a read.
@@ -143,7 +145,7 @@ fn put_message(
         spare: 0,
         page,
     };
-    places::set_slot(m, i, x);
+    slots::set_slot(&mut m[1920..], i, x);
 }
 
 // Kinds 1 to 4: client 7 to directory 3.

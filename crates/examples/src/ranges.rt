@@ -4,7 +4,7 @@ use inspect::fields;
 use tables::Conf;
 
 fn in_range(k: Conf) {
-    if fields::numbers(k) {
+    if fields::numbers(5, k) {
         show::text(b": in range\n");
     } else {
         show::text(b": out of range\n");

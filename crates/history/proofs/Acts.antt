@@ -14,7 +14,7 @@ use Rattle.tables.specs.Tables.{Page, noPage, Machine, clientAt, directoryAt, r
 use Rattle.inspect.specs.Good.{between}
 use Rattle.inspect.proofs.Facts.{MessageFacts}
 use Rattle.rules.specs.declared.Outcome.{Outcome}
-use Rattle.rules.specs.Posts.{noPost}
+use Rattle.mail.specs.Posts.{noPost}
 use Rattle.rules.specs.Answers.{coded, answerOf}
 use Rattle.rules.specs.Directory.{directoryAfter, directoryPost}
 use Rattle.rules.specs.Replica.{tidied, replicaAfter, replicaPost, isFull, gossipPost}

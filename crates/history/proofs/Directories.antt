@@ -14,8 +14,8 @@ use Rattle.sets.proofs.TagOrder.{_≼_}
 use Rattle.tables.specs.declared.Directory.{Directory}
 use Rattle.tables.specs.declared.Message.{Message}
 use Rattle.tables.specs.Tables.{Machine, noPage, directoryAt}
-use Rattle.rules.specs.declared.Post.{Post}
-use Rattle.rules.specs.Posts.{message}
+use Rattle.mail.specs.declared.Post.{Post}
+use Rattle.mail.specs.Posts.{message}
 use Rattle.rules.specs.Directory.{directoryAfter, directoryPost}
 use Rattle.rules.proofs.DirectoryViews.{Tells, DirectoryView, joins, takes, adds, stays, directory-view, tag-reached}
 use Rattle.history.proofs.Rows.{Sent}

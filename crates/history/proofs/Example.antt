@@ -5,17 +5,19 @@ use Prim.Native.Nat.{ℕ}
 use lib.Count.{ones, onesIn}
 use lib.ListN.{replicate}
 use Rattle.sets.specs.Tags.{tag, against}
+use Rattle.tables.specs.declared.Layout.{Layout}
 use Rattle.tables.specs.declared.Conf.{Conf}
 use Rattle.tables.specs.Kinds.{senderOf, receiverOf}
 use Rattle.tables.specs.Tables.{Page, noPage, noClient, noDirectory, noEntry, noReplica, noMessage}
 use Rattle.tables.specs.Rows.{rowsWords, joined}
-use Rattle.tables.specs.Machines.{rowsOf, confOf, clientOf, directoryOf, entryOf, messageOf, entriesOf, replicasOf, machineOf}
+use Rattle.tables.specs.Layouts.{base, wide, extent}
+use Rattle.tables.specs.Machines.{rowsOf, clientsOf, directoriesOf, slotsOf, confOf, clientOf, directoryOf, entryOf, messageOf, entriesOf, replicasOf, machineOf}
 use Rattle.tables.specs.Words.{confWords, clientWords, directoryWords, downWords, entryWords, replicaWords, messageWords, blocks, words}
 use Rattle.inspect.specs.Good.{goodNumbers, zeros, goodClient, goodDirectory, goodEntry, tagsOnce, goodReplica, goodMessage, clientRow, directoryRow, replicaRow, slotRow, goodMachine, good}
 use Rattle.machine.specs.Buffers.{call}
 use Rattle.rules.specs.declared.Answer.{Answer}
 use Rattle.rules.specs.Answers.{answer, coded}
-use Rattle.rules.specs.Posts.{messagesOf}
+use Rattle.mail.specs.Posts.{messagesOf}
 use Rattle.rules.specs.Quorums.{enoughToRead, enoughToWrite}
 use Rattle.rules.specs.Directory.{directoryAfter, directoryPost}
 use Rattle.rules.specs.Replica.{entryWith, raised, highest, secure, write, read, replicaAfter, replicaPost, isFull}
@@ -42,19 +44,19 @@ rehearsal =
     startWrite 1 (page 9) ∷ at 1 ∷ at 1 ∷ at 1 ∷ at 1 ∷ at 1 ∷ at 1 ∷ startRead 1 ∷ at 2 ∷ at 2 ∷ at 2 ∷ at 2 ∷ at 2 ∷ at 2 ∷ startRead 1 ∷ []
 
 -- what each call answers, and what the page to fill holds afterwards
-answers : List ℕ → List Call → List (Answer × Page)
-answers m [] = []
-answers m (c ∷ cs) = (call c m .answer, call c m .page) ∷ answers (call c m .buffer) cs
+answers : Layout → List ℕ → List Call → List (Answer × Page)
+answers lay m [] = []
+answers lay m (c ∷ cs) = (call lay c m .answer, call lay c m .page) ∷ answers lay (call lay c m .buffer) cs
 
 shown : List Call → List (Answer × Page) → List Event
 shown [] l = []
 shown (c ∷ cs) [] = []
 shown (c ∷ cs) (a ∷ l) = eventOf c (a .0) (a .1) ∷ shown cs l
 
-as-shown : (m : List ℕ) (cs : List Call) → events onBuffer m cs ≡ shown cs (answers m cs)
+as-shown : (lay : Layout) (m : List ℕ) (cs : List Call) → events (onBuffer lay) m cs ≡ shown cs (answers lay m cs)
 unfolding events answers shown
-as-shown m [] = refl
-as-shown m (c ∷ cs) = ap (λ l. eventOf c (call c m .answer) (call c m .page) ∷ l) (as-shown (call c m .buffer) cs)
+as-shown lay m [] = refl
+as-shown lay m (c ∷ cs) = ap (λ l. eventOf c (call lay c m .answer) (call lay c m .page) ∷ l) (as-shown lay (call lay c m .buffer) cs)
 
 abbrev quiet : Answer × Page
 quiet = (coded 0, page 0)
@@ -62,17 +64,30 @@ quiet = (coded 0, page 0)
 abbrev begins : Answer × Page
 begins = (coded 0, [])
 
-abbrev start : List ℕ
-start = call (setUp small (page 7)) (replicate 4992 0) .buffer
+abbrev start : Layout → List ℕ
+start lay = call lay (setUp small (page 7)) (replicate (extent lay) 0) .buffer
 
-answered : answers start rehearsal
-    ≡ begins ∷ quiet ∷ quiet ∷ quiet ∷ quiet ∷ quiet ∷ (answer 2 1 (tag 1 1), page 0)
+abbrev answered : List (Answer × Page)
+answered =
+    begins ∷ quiet ∷ quiet ∷ quiet ∷ quiet ∷ quiet ∷ (answer 2 1 (tag 1 1), page 0)
     ∷ begins ∷ quiet ∷ quiet ∷ quiet ∷ quiet ∷ quiet ∷ (answer 1 1 (tag 1 1), page 9) ∷ (coded 21, []) ∷ []
-unfolding answers call good goodMachine clientRow directoryRow replicaRow slotRow goodClient goodDirectory goodEntry goodReplica goodMessage tagsOnce zeros rowsWords rowsOf joined confWords clientWords directoryWords downWords entryWords replicaWords messageWords confOf clientOf directoryOf entryOf messageOf entriesOf replicasOf blocks words machineOf rehearsal ones onesIn against senderOf receiverOf noPage noClient noDirectory noEntry noReplica noMessage goodNumbers messagesOf enoughToRead enoughToWrite directoryAfter directoryPost entryWith raised highest secure write read replicaAfter replicaPost isFull awaited enoughFor isStale heard chosen turned outcome clientAfter request secures clientPost startEffect clientEffect directoryEffect replicaEffect deliverEffect refusal newMachine effectOf step
-answered = refl
 
-rehearsed : events onBuffer start rehearsal
+-- in either layout
+answers-are : (answers base (start base) rehearsal ≡ answered) × (answers wide (start wide) rehearsal ≡ answered)
+unfolding answers call good goodMachine clientRow directoryRow replicaRow slotRow goodClient goodDirectory goodEntry goodReplica goodMessage tagsOnce zeros rowsWords rowsOf clientsOf directoriesOf slotsOf joined confWords clientWords directoryWords downWords entryWords replicaWords messageWords confOf clientOf directoryOf entryOf messageOf entriesOf replicasOf blocks words machineOf rehearsal ones onesIn against senderOf receiverOf noPage noClient noDirectory noEntry noReplica noMessage goodNumbers messagesOf enoughToRead enoughToWrite directoryAfter directoryPost entryWith raised highest secure write read replicaAfter replicaPost isFull awaited enoughFor isStale heard chosen turned outcome clientAfter request secures clientPost startEffect clientEffect directoryEffect replicaEffect deliverEffect refusal newMachine effectOf step
+answers-are = (refl, refl)
+
+rehearsed : (lay : Layout) → answers lay (start lay) rehearsal ≡ answered
+    → events (onBuffer lay) (start lay) rehearsal
     ≡ write-begins 1 (page 9) ∷ nothing ∷ nothing ∷ nothing ∷ nothing ∷ nothing ∷ write-ends 1
     ∷ read-begins 1 ∷ nothing ∷ nothing ∷ nothing ∷ nothing ∷ nothing ∷ read-ends 1 (page 9) ∷ nothing ∷ []
 unfolding eventOf shown rehearsal
-rehearsed = as-shown start rehearsal ∙ ap (shown rehearsal) answered
+rehearsed lay e = as-shown lay (start lay) rehearsal ∙ ap (shown rehearsal) e
+
+-- twelve directories are more than one layout has room for, and fit the other
+abbrev twelve : Call
+twelve = setUp (record { clients = 1; directories = 12; replicas = 1; f = 0; rq = 6; wq = 7; top = 6 }) (page 7)
+
+set-up-twelve : (call base twelve (replicate 4992 0) .answer ≡ coded 18) × (call wide twelve (replicate 5036 0) .answer ≡ coded 0)
+unfolding call goodNumbers rowsOf directoriesOf directoryOf slotsOf machineOf messageOf messagesOf refusal effectOf step
+set-up-twelve = (refl, refl)

@@ -26,7 +26,7 @@ use Rattle.rules.proofs.Covers.{Covers, held}
 use Rattle.machine.specs.Steps.{firstDirectory, firstReplica, newMachine}
 use Rattle.runs.proofs.New.{new-sound}
 use Rattle.order.specs.Method.{idle, Fresh}
-use Rattle.machine.proofs.Places.{all-from}
+use Rattle.mail.proofs.Messages.{all-from}
 use Rattle.history.proofs.Invariant.{CoversAt, Told, Known, ReplicaOk, Invariant}
 use Rattle.history.proofs.Pages.{Within}
 use Rattle.history.proofs.Ranks.{standOf}
@@ -43,12 +43,13 @@ module _ {A : Type 0} (d : A) (f : ℕ → A) where
   row-numbers n zero h k = absurd (omega arith)
   row-numbers n (suc p) h k = numbers-at 1 n p k ∙ ap f (omega arith)
 
-module _ (k : Conf) (p : Page) (g : goodNumbers k ≡ true) where
+-- room for r directories
+module _ (r : ℕ) (k : Conf) (p : Page) (g : goodNumbers r k ≡ true) where
   abbrev M : Machine
-  M = newMachine k p
+  M = newMachine r k p
 
-  n : NumbersFacts k
-  n = numbers-facts k g
+  n : NumbersFacts r k
+  n = numbers-facts r k g
 
   known : Known M first
   unfolding newMachine enoughToWrite
@@ -57,27 +58,27 @@ module _ (k : Conf) (p : Page) (g : goodNumbers k ≡ true) where
         quorum = all (k .directories);
         inside = all-lt (k .directories);
         enough = le→leb (k .wq) (size (all (k .directories))) (omega (arith, size-all (k .directories), n .written-within));
-        reached = λ d _. first-least (directoryAt (newMachine k p) d .tag);
+        reached = λ d _. first-least (directoryAt (newMachine r k p) d .tag);
       }
 
-  covers : (r : ℕ) → 1 ≤ r → r ≤ k .replicas → CoversAt M r first
+  covers : (i : ℕ) → 1 ≤ i → i ≤ k .replicas → CoversAt M i first
   unfolding newMachine
-  covers r l h =
-      subst (λ (w : Replica). Covers (w .entries) first) (sym (row-numbers noReplica (firstReplica k p) 7 r l (omega (arith, n .few-replicas))))
-      (if-ind (λ (w : Replica). Covers (w .entries) first) (leb r (k .replicas)) (λ _. held tt) (λ m. absurd (omega (arith, nleb→lt r (k .replicas) m))))
+  covers i l h =
+      subst (λ (w : Replica). Covers (w .entries) first) (sym (row-numbers noReplica (firstReplica k p) 7 i l (omega (arith, n .few-replicas))))
+      (if-ind (λ (w : Replica). Covers (w .entries) first) (leb i (k .replicas)) (λ _. held tt) (λ m. absurd (omega (arith, nleb→lt i (k .replicas) m))))
 
   told : Told M first (all (k .replicas))
   unfolding newMachine
   told =
       record {
         enough = omega (arith, size-all (k .replicas), n .enough-replicas);
-        covers = λ r h. let q = all-in (k .replicas) r h in covers r (q .0) (q .1);
+        covers = λ i h. let q = all-in (k .replicas) i h in covers i (q .0) (q .1);
       }
 
   directory-told : (d : ℕ) → 1 ≤ d → d ≤ k .directories → Told M (directoryAt M d .tag) (directoryAt M d .set)
   unfolding newMachine
   directory-told d l h =
-      subst (λ (w : Directory). Told M (w .tag) (w .set)) (sym (row-numbers noDirectory (firstDirectory k) 5 d l (omega (arith, n .few-directories))))
+      subst (λ (w : Directory). Told M (w .tag) (w .set)) (sym (row-numbers noDirectory (firstDirectory k) r d l (omega (arith, n .few-directories))))
       (if-ind (λ (w : Directory). Told M (w .tag) (w .set)) (leb d (k .directories)) (λ _. told) (λ m. absurd (omega (arith, nleb→lt d (k .directories) m))))
 
   new-invariant : Invariant M
@@ -87,7 +88,7 @@ module _ (k : Conf) (p : Page) (g : goodNumbers k ≡ true) where
         clients = all-replicate 8 noClient tt;
         directories = directory-told;
         replicas = all-from (firstReplica k p) (numbers 1 7)
-            (λ r _. if-ind (ReplicaOk M) (leb r (k .replicas)) (λ _. cons (λ _. known) (all-replicate 11 noEntry (λ s. absurd s))) (λ _. all-replicate 12 noEntry (λ s. absurd s)));
+            (λ i _. if-ind (ReplicaOk M) (leb i (k .replicas)) (λ _. cons (λ _. known) (all-replicate 11 noEntry (λ s. absurd s))) (λ _. all-replicate 12 noEntry (λ s. absurd s)));
         messages = all-replicate 128 noMessage tt;
       }
 
@@ -97,7 +98,7 @@ module _ (k : Conf) (p : Page) (g : goodNumbers k ≡ true) where
       record {
         clients = all-replicate 8 noClient (λ z. absurd z);
         replicas = all-from (firstReplica k p) (numbers 1 7)
-            (λ r _. if-ind (λ (w : Replica). All (λ e. T (not (isFree e)) → H (e .tag) (e .page)) (w .entries)) (leb r (k .replicas))
+            (λ i _. if-ind (λ (w : Replica). All (λ e. T (not (isFree e)) → H (e .tag) (e .page)) (w .entries)) (leb i (k .replicas))
             (λ _. cons (λ _. h) (all-replicate 11 noEntry (λ z. absurd z))) (λ _. all-replicate 12 noEntry (λ z. absurd z)));
         messages = all-replicate 128 noMessage (λ z. absurd z);
       }
@@ -106,7 +107,7 @@ module _ (k : Conf) (p : Page) (g : goodNumbers k ≡ true) where
   unfolding newMachine noClient
   fresh q =
       record {
-        good = record { sound = new-sound k p q g; invariant = new-invariant };
+        good = record { sound = new-sound k p q r g; invariant = new-invariant };
         none = λ c. all-row {P = λ w. standOf w ≡ idle} noClient c refl (all-replicate 8 noClient refl);
         known = known;
         first = new-within (Ranked (λ t q. (t ≡ 0) × (q ≡ p))) (refl, refl);

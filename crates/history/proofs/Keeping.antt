@@ -7,7 +7,7 @@ use Rattle.sets.proofs.Laws.{none-in, only-in}
 use Rattle.tables.specs.declared.Message.{Message}
 use Rattle.tables.specs.Tables.{Machine, noDirectory, noMessage, withSlots}
 use Rattle.tables.proofs.All.{All, all-map, all-withRow}
-use Rattle.rules.specs.Posts.{post, noPost, toReceiver}
+use Rattle.mail.specs.Posts.{post, noPost, toReceiver}
 use Rattle.machine.specs.Effects.{Change, nothing, client, directory, replica, Effect, changed, applied}
 use Rattle.history.proofs.Rows.{row-ind, Sent, all-slots}
 use Rattle.history.proofs.Invariant.{Told, MessageOk, ClientOk, ReplicaOk, Invariant}

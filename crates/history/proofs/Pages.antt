@@ -18,7 +18,7 @@ use Rattle.tables.specs.Kinds.{carriesPage}
 use Rattle.tables.specs.Rows.{some?}
 use Rattle.tables.specs.Tables.{Page, Replica, Machine, noEntry, noReplica, noMessage, noClient, clientAt, directoryAt, replicaAt, slotAt, withSlots, isFree, isSecured}
 use Rattle.tables.proofs.All.{All, all-map, all-row, all-withRow, all-replicate}
-use Rattle.rules.specs.declared.Post.{Post}
+use Rattle.mail.specs.declared.Post.{Post}
 use Rattle.rules.specs.declared.Outcome.{Outcome}
 use Rattle.rules.specs.declared.Outcome.the-variants.{Waiting, Next, ReadEnded, WriteEnded, Spent, Stale}
 use Rattle.rules.specs.Directory.{directoryPost}

@@ -15,8 +15,8 @@ use Rattle.tables.specs.declared.Message.{Message}
 use Rattle.tables.specs.Rows.{some?}
 use Rattle.tables.specs.Tables.{Machine, noPage, noEntry, noReplica, replicaAt, isSecured}
 use Rattle.tables.proofs.All.{all-row, all-replicate}
-use Rattle.rules.specs.declared.Post.{Post}
-use Rattle.rules.specs.Posts.{message}
+use Rattle.mail.specs.declared.Post.{Post}
+use Rattle.mail.specs.Posts.{message}
 use Rattle.rules.specs.Replica.{highest, entryWith, read, replicaAfter, replicaPost, isFull, gossipPost}
 use Rattle.rules.proofs.Highest.{highest-of}
 use Rattle.rules.proofs.Covers.{covers-new, highest-tag, read-reaches, read-of}

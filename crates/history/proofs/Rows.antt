@@ -13,9 +13,9 @@ use Rattle.tables.specs.declared.Party.the-variants.{Nobody, AClient, ADirector
 use Rattle.tables.specs.Rows.{row, withRow}
 use Rattle.tables.specs.Tables.{Machine, noClient, noMessage, clientAt}
 use Rattle.tables.proofs.All.{All}
-use Rattle.rules.specs.declared.Post.{Post}
-use Rattle.rules.specs.Posts.{toReceiver}
-use Rattle.machine.proofs.Places.{all-sent, all-placed, all-freed}
+use Rattle.mail.specs.declared.Post.{Post}
+use Rattle.mail.specs.Posts.{toReceiver}
+use Rattle.mail.proofs.Messages.{all-sent, all-placed, all-freed}
 use Rattle.machine.specs.Calls.{downClient, downed}
 use Rattle.machine.specs.Effects.{Change, nothing, client, directory, replica, Effect, changed, applied}
 

@@ -19,7 +19,7 @@ use Rattle.tables.specs.declared.Entry.{Entry}
 use Rattle.tables.specs.declared.Message.{Message}
 use Rattle.tables.specs.Tables.{Machine, noMessage, clientAt, directoryAt, replicaAt, slotAt}
 use Rattle.tables.proofs.All.{All, all-row, all-map}
-use Rattle.rules.specs.declared.Post.{Post}
+use Rattle.mail.specs.declared.Post.{Post}
 use Rattle.rules.specs.declared.Outcome.{Outcome}
 use Rattle.rules.specs.declared.Outcome.the-variants.{Waiting, Next, ReadEnded, WriteEnded, Spent, Stale}
 use Rattle.rules.specs.Quorums.{enoughToRead, enoughToWrite}

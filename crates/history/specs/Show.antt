@@ -1,5 +1,6 @@
 -- What a call shows its caller, by its answer; and the calls on a lent buffer, as `order` reads them.
 use Rattle.sets.specs.Plain.{_≡_, ℕ, T, eqb, List, if_then_else_}
+use Rattle.tables.specs.declared.Layout.{Layout}
 use Rattle.tables.specs.Tables.{Page}
 use Rattle.rules.specs.declared.Answer.{Answer}
 use Rattle.machine.specs.Calls.{Call, setUp, startRead, startWrite, deliver, gossip, tidy, crash, report}
@@ -29,10 +30,10 @@ eventOf report a p = nothing
 abbrev pub Renews : Call → Answer → Type 0
 Renews c a = T (isSetUp c) × (a .code ≡ 0)
 
-abbrev pub onBuffer : Calls (List ℕ) Call
-onBuffer =
+abbrev pub onBuffer : Layout → Calls (List ℕ) Call
+onBuffer lay =
     record {
-      after = λ m c. call c m .buffer;
-      shows = λ m c. eventOf c (call c m .answer) (call c m .page);
-      Meant = λ m c. Renews c (call c m .answer) → ⊥;
+      after = λ m c. call lay c m .buffer;
+      shows = λ m c. eventOf c (call lay c m .answer) (call lay c m .page);
+      Meant = λ m c. Renews c (call lay c m .answer) → ⊥;
     }

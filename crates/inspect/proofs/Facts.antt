@@ -26,11 +26,11 @@ use Rattle.inspect.proofs.Each.{each-at}
 
 -- ---- the seven numbers
 
-pub record NumbersFacts (k : Conf) : Type 0 where
+pub record NumbersFacts (n : ℕ) (k : Conf) : Type 0 where
   pub some-clients : 1 ≤ k .clients
   pub few-clients : k .clients ≤ 8
   pub some-directories : 1 ≤ k .directories
-  pub few-directories : k .directories ≤ 5
+  pub few-directories : k .directories ≤ n
   pub some-replicas : 1 ≤ k .replicas
   pub few-replicas : k .replicas ≤ 7
   pub few-crashes : k .f ≤ 3
@@ -43,18 +43,18 @@ pub record NumbersFacts (k : Conf) : Type 0 where
   pub some-rounds : 3 ≤ k .top
   pub top-fits : k .top ≤ 4294967295
 
-module _ (k : Conf) (g : goodNumbers k ≡ true) where
-  at-most : (a b : ℕ) → (leb a b ≡ false → goodNumbers k ≡ false) → a ≤ b
-  at-most a b h = le-by a b (goodNumbers k) h g
+module _ (n : ℕ) (k : Conf) (g : goodNumbers n k ≡ true) where
+  at-most : (a b : ℕ) → (leb a b ≡ false → goodNumbers n k ≡ false) → a ≤ b
+  at-most a b h = le-by a b (goodNumbers n k) h g
 
-  pub numbers-facts : NumbersFacts k
+  pub numbers-facts : NumbersFacts n k
   unfolding goodNumbers
   numbers-facts =
       record {
         some-clients = at-most 1 (k .clients) (λ f. simp f);
         few-clients = at-most (k .clients) 8 (λ f. simp (f, and-false));
         some-directories = at-most 1 (k .directories) (λ f. simp (f, and-false));
-        few-directories = at-most (k .directories) 5 (λ f. simp (f, and-false));
+        few-directories = at-most (k .directories) n (λ f. simp (f, and-false));
         some-replicas = at-most 1 (k .replicas) (λ f. simp (f, and-false));
         few-replicas = at-most (k .replicas) 7 (λ f. simp (f, and-false));
         few-crashes = at-most (k .f) 3 (λ f. simp (f, and-false));
@@ -68,8 +68,8 @@ module _ (k : Conf) (g : goodNumbers k ≡ true) where
         top-fits = at-most (k .top) 4294967295 (λ f. simp (f, and-false));
       }
 
-  pub few : Few k
-  few = let n = numbers-facts in record { directories = omega arith; replicas = omega arith; rounds = omega arith }
+  pub few : n ≤ 31 → Few k
+  few h = let n = numbers-facts in record { directories = omega arith; replicas = omega arith; rounds = omega arith }
 
 -- ---- a tag
 

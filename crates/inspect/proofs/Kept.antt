@@ -6,6 +6,7 @@ use Rattle.tables.specs.declared.Client.{Client}
 use Rattle.tables.specs.declared.Directory.{Directory}
 use Rattle.tables.specs.declared.Message.{Message}
 use Rattle.tables.specs.Tables.{Replica, Machine, withClient, withDirectory, withReplica, withSlot}
+use Rattle.tables.proofs.All.{length-withRow}
 use Rattle.inspect.specs.Good.{clientRow, directoryRow, replicaRow, slotRow, goodMachine}
 use Rattle.inspect.proofs.Each.{row-replaced}
 use Rattle.inspect.proofs.Machines.{clients-pass, directories-pass, replicas-pass, slots-pass}
@@ -17,7 +18,7 @@ module _ (M : Machine) (g : goodMachine M ≡ true) where
 
   pub good-directory : (d : ℕ) (x : Directory) → directoryRow (M .conf) d x ≡ true → goodMachine (withDirectory M d x) ≡ true
   unfolding goodMachine
-  good-directory d x h = rw (row-replaced (directoryRow (M .conf)) (M .directories) d x h (directories-pass M g)) (rw (directories-pass M g) at g)
+  good-directory d x h = rw (length-withRow (M .directories) d x, row-replaced (directoryRow (M .conf)) (M .directories) d x h (directories-pass M g)) (rw (directories-pass M g) at g)
 
   pub good-replica : (r : ℕ) (x : Replica) → replicaRow (M .conf) r x ≡ true → goodMachine (withReplica M r x) ≡ true
   unfolding goodMachine

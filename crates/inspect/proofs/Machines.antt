@@ -6,15 +6,16 @@ use Prim.Native.Nat.{ℕ, _≤_}
 use borrow.Author.Tests.{le-leb}
 use lib.ListN.{length}
 use Rattle.sets.proofs.Tests.{passes-by}
+use Rattle.tables.specs.declared.Layout.{Layout}
 use Rattle.tables.specs.Tables.{Machine, noClient, noDirectory, noReplica, noMessage, clientAt, directoryAt, replicaAt, slotAt, isEmpty}
 use Rattle.tables.specs.Machines.{machineOf}
 use Rattle.inspect.specs.Good.{zeros, eachRow, goodNumbers, goodClient, goodDirectory, goodReplica, goodMessage, clientRow, directoryRow, replicaRow, slotRow, goodMachine, good}
 use Rattle.inspect.proofs.Each.{row-passes}
 
 module _ (M : Machine) (g : goodMachine M ≡ true) where
-  pub numbers-pass : goodNumbers (M .conf) ≡ true
+  pub numbers-pass : goodNumbers (length (M .directories)) (M .conf) ≡ true
   unfolding goodMachine
-  numbers-pass = passes-by (goodNumbers (M .conf)) (goodMachine M) (λ f. simp f) g
+  numbers-pass = passes-by (goodNumbers (length (M .directories)) (M .conf)) (goodMachine M) (λ f. simp f) g
 
   pub spare-pass : zeros (M .spare) ≡ true
   unfolding goodMachine
@@ -62,6 +63,6 @@ module _ (M : Machine) (g : goodMachine M ≡ true) where
   message-good s l h u = rw u at (slot-good s l h)
 
 -- of a buffer
-pub good-machine : (m : List ℕ) → good m ≡ true → goodMachine (machineOf m) ≡ true
+pub good-machine : (lay : Layout) (m : List ℕ) → good lay m ≡ true → goodMachine (machineOf lay m) ≡ true
 unfolding good
-good-machine m g = g
+good-machine lay m g = g

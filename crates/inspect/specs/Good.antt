@@ -1,7 +1,8 @@
 -- "A bad machine is one where .. Nothing else is bad": `good` is true where the machine is not bad, and false where it is.
 -- Each line of a conjunction is one of the paper's conditions.
-use Rattle.sets.specs.Plain.{Bool, true, not, _&&_, _||_, ℕ, suc, _+_, _*_, _^_, leb, ltb, eqb, List, [], _∷_, if_then_else_}
+use Rattle.sets.specs.Plain.{Bool, true, not, _&&_, _||_, ℕ, suc, _+_, _*_, _^_, leb, ltb, eqb, List, [], _∷_, length, if_then_else_}
 use Rattle.sets.specs.declared.Tag.{Tag}
+use Rattle.tables.specs.declared.Layout.{Layout}
 use Rattle.tables.specs.declared.Conf.{Conf}
 use Rattle.tables.specs.declared.Party.{Party}
 use Rattle.tables.specs.declared.Client.{Client}
@@ -36,10 +37,11 @@ eachRow test n (x ∷ xs) = test n x && eachRow test (suc n) xs
 
 -- ---- "Numbers and parties"
 
-unfoldable pub goodNumbers : Conf → Bool
-goodNumbers k =
+-- a machine has room for n directories
+unfoldable pub goodNumbers : ℕ → Conf → Bool
+goodNumbers n k =
     between 1 8 (k .clients)
-    && between 1 5 (k .directories)
+    && between 1 n (k .directories)
     && between 1 7 (k .replicas)
     && leb (k .f) 3
     && leb (2 * k .f + 1) (k .replicas)
@@ -136,7 +138,7 @@ slotRow k s x = if isEmpty x then zeros (messageWords x) else goodMessage k x
 
 unfoldable pub goodMachine : Machine → Bool
 goodMachine M =
-    goodNumbers (M .conf)
+    goodNumbers (length (M .directories)) (M .conf)
     && zeros (M .spare)
     && eachRow (clientRow (M .conf)) 1 (M .clients)
     && eachRow (directoryRow (M .conf)) 1 (M .directories)
@@ -145,5 +147,5 @@ goodMachine M =
     && eachRow (slotRow (M .conf)) 1 (M .slots)
 
 -- the machine of a buffer is not bad
-unfoldable pub good : List ℕ → Bool
-good m = goodMachine (machineOf m)
+unfoldable pub good : Layout → List ℕ → Bool
+good lay m = goodMachine (machineOf lay m)

@@ -26,12 +26,12 @@ pub fn zero(s: &[u32]) -> bool
     joined(s) == 0
 }
 
-// The seven numbers are in range: set-up's test too.
-pub fn numbers(k: Conf) -> bool
-    ensures { λ r. ⌜ r ≡ goodNumbers k ⌝ }
+// The seven numbers are in range, in a machine with room for n directories: set-up's test too.
+pub fn numbers(n: u32, k: Conf) -> bool
+    ensures { λ r. ⌜ r ≡ goodNumbers n k ⌝ }
 {
     is_between(1, 8, k.clients)
-        & is_between(1, 5, k.directories)
+        & is_between(1, n, k.directories)
         & is_between(1, 7, k.replicas)
         & (k.f <= 3)
         & (2 * (k.f as u64) + 1 <= k.replicas as u64)

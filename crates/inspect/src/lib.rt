@@ -1,8 +1,9 @@
 // Whether a machine is bad, document 01, "A bad machine". It runs on every call: what a kind or a phase may hold is worked out once, and the first bad row of a table ends it.
 ghost use mathlib.Core.Path.{_≡_};
-ghost use Prim.Native.Nat.{_≤_};
-ghost use lib.ListN.{length};
+ghost use Rattle.tables.specs.Inner.{Fits};
 ghost use Rattle.inspect.specs.Good.{good};
+use tables::Layout;
+use tables::places;
 use tables::rows;
 
 pub mod fields; // fields.rt: numbers, tags, sets, runs of zeros
@@ -12,18 +13,22 @@ pub mod entries; // entries.rt: the entries of one replica
 pub mod table; // table.rt: every row of a table
 
 // Whether the machine that a buffer begins with is not bad.
-pub fn is_good(m: &[u32]) -> bool
-    requires { ⌜ 4992 ≤ length (now m) ⌝ }
-    ensures { λ r. ⌜ r ≡ good (now (m .entry)) ⌝ }
+pub fn is_good(lay: Layout, m: &[u32]) -> bool
+    requires { ⌜ Fits lay (now m) ⌝ }
+    ensures { λ r. ⌜ r ≡ good lay (now (m .entry)) ⌝ }
 {
     let k = rows::conf_at(m);
-    if !fields::numbers(k) {
+    if !fields::numbers(lay.directories as u32, k) {
         return false;
     }
+    let flags = places::flags_at(lay);
+    let gap = flags + 7;
+    let entries = places::entries_at(lay, 0);
+    let slots = places::slots_at(lay);
     fields::zero(&m[7..16])
-        & table::clients(k, m)
-        & table::directories(k, m)
-        & fields::zero(&m[235..240])
-        & table::replicas(k, m)
-        & table::slots(k, m)
+        & table::clients(k, &m[16..])
+        & table::directories(k, lay.directories, &m[208..])
+        & fields::zero(&m[gap..entries])
+        & table::replicas(k, &m[flags..], &m[entries..])
+        & table::slots(k, &m[slots..])
 }

@@ -1,11 +1,11 @@
-// Every row of a table: a row in use by its fields, and one not in use by its zeros.
+// Every row of a table, which is lent from its first row on: a row in use by its fields, and one not in use by its zeros.
 ghost use mathlib.Core.Path.{_≡_};
-ghost use Prim.Native.Nat.{_≤_};
+ghost use Prim.Native.Nat.{_*_, _≤_};
 ghost use lib.ListN.{length};
 ghost use Rattle.sets.specs.Plain.{if_then_else_};
 ghost use Rattle.tables.specs.declared.Conf.{Conf};
 ghost use Rattle.tables.specs.Words.{clientWords, directoryWords};
-ghost use Rattle.tables.specs.Machines.{clientOf, directoryOf, messageOf, machineOf};
+ghost use Rattle.tables.specs.Machines.{clientOf, directoryOf, messageOf, clientsOf, directoriesOf, replicasOf, slotsOf};
 ghost use Rattle.inspect.specs.Good.{zeros, eachRow, goodClient, goodDirectory, clientRow, directoryRow, replicaRow, slotRow};
 ghost use Rattle.inspect.specs.Inner.{Few, FewIn, replicaIn, kindTable, phaseTable};
 use crate::entries;
@@ -34,16 +34,16 @@ pub fn client(t: &[[u32; 8]], used: bool, l: &[u32]) -> bool
     fields::zero(l)
 }
 
-pub fn clients(k: Conf, m: &[u32]) -> bool
-    requires { ⌜ (4992 ≤ length (now m)) × Few k ⌝ }
-    ensures { λ r. ⌜ r ≡ eachRow (clientRow k) 1 (machineOf (now (m .entry)) .clients) ⌝ }
+pub fn clients(k: Conf, l: &[u32]) -> bool
+    requires { ⌜ (192 ≤ length (now l)) × Few k ⌝ }
+    ensures { λ r. ⌜ r ≡ eachRow (clientRow k) 1 (clientsOf (now (l .entry))) ⌝ }
 {
     let t = limits::phases(k);
     let mut i: usize = 0;
     while i < 8 {
-        let at = 16 + i * 24;
+        let at = i * 24;
         let end = at + 24;
-        if !client(&t, i < k.clients as usize, &m[at..end]) {
+        if !client(&t, i < k.clients as usize, &l[at..end]) {
             return false;
         }
         i += 1;
@@ -62,16 +62,17 @@ pub fn directory(k: Conf, used: bool, l: &[u32]) -> bool
     fields::zero(l)
 }
 
-pub fn directories(k: Conf, m: &[u32]) -> bool
-    requires { ⌜ (4992 ≤ length (now m)) × Few k ⌝ }
-    ensures { λ r. ⌜ r ≡ eachRow (directoryRow k) 1 (machineOf (now (m .entry)) .directories) ⌝ }
+// n rows.
+pub fn directories(k: Conf, n: usize, l: &[u32]) -> bool
+    requires { ⌜ (n * 4 ≤ length (now l)) × (n ≤ 16) × Few k ⌝ }
+    ensures { λ r. ⌜ r ≡ eachRow (directoryRow k) 1 (directoriesOf n (now (l .entry))) ⌝ }
 {
     let mut ok = true;
     let mut i: usize = 0;
-    while i < 5 {
-        let at = 208 + i * 4;
+    while i < n {
+        let at = i * 4;
         let end = at + 4;
-        ok = ok & directory(k, i < k.directories as usize, &m[at..end]);
+        ok = ok & directory(k, i < k.directories as usize, &l[at..end]);
         i += 1;
     }
     ok
@@ -88,16 +89,16 @@ pub fn replica(k: Conf, used: bool, down: u32, l: &[u32]) -> bool
     (down == 0) & fields::zero(l)
 }
 
-pub fn replicas(k: Conf, m: &[u32]) -> bool
-    requires { ⌜ 4992 ≤ length (now m) ⌝ }
-    ensures { λ r. ⌜ r ≡ eachRow (replicaRow k) 1 (machineOf (now (m .entry)) .replicas) ⌝ }
+// Their down flags, and their entries.
+pub fn replicas(k: Conf, flags: &[u32], l: &[u32]) -> bool
+    requires { ⌜ (7 ≤ length (now flags)) × (1680 ≤ length (now l)) ⌝ }
+    ensures { λ r. ⌜ r ≡ eachRow (replicaRow k) 1 (replicasOf 7 (now (flags .entry)) (now (l .entry))) ⌝ }
 {
     let mut i: usize = 0;
     while i < 7 {
-        let at = 240 + i * 240;
+        let at = i * 240;
         let end = at + 240;
-        let down = m[228 + i];
-        if !replica(k, i < k.replicas as usize, down, &m[at..end]) {
+        if !replica(k, i < k.replicas as usize, flags[i], &l[at..end]) {
             return false;
         }
         i += 1;
@@ -123,16 +124,16 @@ pub fn slot(t: &[[u32; 8]], l: &[u32]) -> bool
     row::message(y, x, page)
 }
 
-pub fn slots(k: Conf, m: &[u32]) -> bool
-    requires { ⌜ (4992 ≤ length (now m)) × Few k ⌝ }
-    ensures { λ r. ⌜ r ≡ eachRow (slotRow k) 1 (machineOf (now (m .entry)) .slots) ⌝ }
+pub fn slots(k: Conf, l: &[u32]) -> bool
+    requires { ⌜ (3072 ≤ length (now l)) × Few k ⌝ }
+    ensures { λ r. ⌜ r ≡ eachRow (slotRow k) 1 (slotsOf (now (l .entry))) ⌝ }
 {
     let t = limits::kinds(k);
     let mut i: usize = 0;
     while i < 128 {
-        let at = 1920 + i * 24;
+        let at = i * 24;
         let end = at + 24;
-        if !slot(&t, &m[at..end]) {
+        if !slot(&t, &l[at..end]) {
             return false;
         }
         i += 1;

@@ -4,13 +4,15 @@ mod set_up; // set_up.rt: the seven numbers, buffers, pages
 mod wear; // wear.rt: WORN
 mod fill; // fill.rt: the 13th tag
 mod tell; // tell.rt: report
+mod wide; // wide.rt: the layout of 16 directory rows
 
 fn main() {
-    let mut m = [0u32; 5000];
+    let mut m = [0u32; 5040];
     set_up::numbers(&mut m);
     set_up::buffers(&mut m);
     set_up::pages(&mut m);
     wear::run(&mut m);
     fill::run(&mut m);
     tell::run(&mut m);
+    wide::run(&mut m);
 }

@@ -14,7 +14,7 @@ use Rattle.tables.specs.declared.Message.{Message}
 use Rattle.inspect.proofs.Facts.{NumbersFacts}
 use Rattle.rules.specs.declared.Outcome.{Outcome}
 use Rattle.rules.specs.declared.Outcome.the-variants.{Waiting, Next, ReadEnded, WriteEnded, Spent, Stale}
-use Rattle.rules.specs.declared.Post.{Post}
+use Rattle.mail.specs.declared.Post.{Post}
 use Rattle.rules.specs.Client.{gathered, raised, heard, moved, clientAfter, request, secures, clientPost}
 use Rattle.rules.proofs.Heard.{heard-answered}
 use Rattle.machine.proofs.Arrivals.{all-small}
@@ -25,7 +25,7 @@ Small n = n < 2 ^ 16
 abbrev pub Sends : Post → Type 0
 Sends y = y .to < 2 ^ 16
 
-module _ (k : Conf) (n : NumbersFacts k) where
+module _ (d : ℕ) (few : d ≤ 16) (k : Conf) (n : NumbersFacts d k) where
   pub request-few : (own : ℕ) (y : Client) → Small (y .replicas) → Sends (request k own y)
   unfolding request
   request-few own y h =

@@ -7,10 +7,13 @@ use Prim.Native.Nat.{ℕ, suc, _-_, _^_, _≤_, _<_}
 use native.Mathlib.Omega.{arith}
 use borrow.Author.Tests.{eq-eqb, ne-eqb, eqb-true}
 use lib.Dec.{eqb}
-use lib.ListN.{drop}
+use lib.ListN.{length, drop}
+use Rattle.tables.specs.Layouts.{extent}
 use Rattle.sets.specs.Plain.{if_then_else_}
 use Rattle.sets.specs.declared.Tag.{Tag}
 use Rattle.sets.proofs.Tests.{either, false-T}
+use Rattle.tables.specs.Layouts.{base}
+use Rattle.tables.specs.declared.Layout.{Layout}
 use Rattle.tables.specs.declared.Client.{Client}
 use Rattle.tables.specs.declared.Conf.{Conf}
 use Rattle.tables.specs.declared.Message.{Message}
@@ -48,33 +51,37 @@ filled-by x page (WriteEnded t) b h = page-kept b page
 filled-by x page Spent b h = page-kept b page
 filled-by x page Stale b h = page-kept b page
 
-module _ {m : List ℕ} {s : ℕ} {x : Message} (g : Arrived AClient m s x) where
+many-clients : (lay : Layout) (m : List ℕ) → length (machineOf lay m .clients) ≡ 8
+unfolding machineOf
+many-clients lay m = clients-many (drop 16 m)
+
+module _ {lay : Layout} {m : List ℕ} {s : ℕ} {x : Message} (g : Arrived lay AClient m s x) where
   no-replica : AClient ≡ AReplica → ⊥
-  no-replica q = omega (arith, ap mostOf q)
+  no-replica q = omega (arith, ap (mostOf base) q)
 
-  module _ (w : Client) (e : w ≡ clientAt (machineOf m) (suc (x .receiver - 1))) where
-    here : w ≡ clientAt (machineOf m) (x .receiver)
-    here = e ∙ ap (λ (n : ℕ). clientAt (machineOf m) n) (own g)
+  module _ (w : Client) (e : w ≡ clientAt (machineOf lay m) (suc (x .receiver - 1))) where
+    here : w ≡ clientAt (machineOf lay m) (x .receiver)
+    here = e ∙ ap (λ (n : ℕ). clientAt (machineOf lay m) n) (own g)
 
-    flag : (b : Bool) → eqb (w .down) 1 ≡ b → isDown (machineOf m) AClient (x .receiver) ≡ b
+    flag : (b : Bool) → eqb (w .down) 1 ≡ b → isDown (machineOf lay m) AClient (x .receiver) ≡ b
     flag b h = rw here at h
 
-    pub client-down : (page : List ℕ) (a : Answer) (l : List ℕ) → w .down ≡ 1 → a ≡ coded 4 → l ≡ words (withSlot (machineOf m) (suc s) noMessage) (drop 4992 m)
-        → Took (step (deliver (suc s) page) (machineOf m)) a page m l
+    pub client-down : (page : List ℕ) (a : Answer) (l : List ℕ) → w .down ≡ 1 → a ≡ coded 4 → l ≡ words (withSlot (machineOf lay m) (suc s) noMessage) (drop (extent lay) m)
+        → Took lay (step (deliver (suc s) page) (machineOf lay m)) a page m l
     client-down page a l f h k = drops g page (flag true (eq-eqb _ _ f)) (not-full g no-replica) a l h k
 
     module _ (k : Conf) (c : k ≡ confOf m) where
       facts : ClientFacts k w
       facts =
-          rw (c ∙ conf-of m, here)
-          (client-facts (machineOf m .conf) (clientAt (machineOf m) (x .receiver))
-          (client-good (machineOf m) (good-machine m (g .fine)) (x .receiver) (g .low) (g .inside) (omega (arith, g .high, clients-many m))))
+          rw (c ∙ conf-of lay m, here)
+          (client-facts (machineOf lay m .conf) (clientAt (machineOf lay m) (x .receiver))
+          (client-good (machineOf lay m) (good-machine lay m (g .fine)) (x .receiver) (g .low) (g .inside) (omega (arith, g .high, many-clients lay m))))
 
-      numbers : NumbersFacts k
-      numbers = numbers-of m (g .fine) k c
+      numbers : NumbersFacts (lay .directories) k
+      numbers = numbers-of lay m (g .fine) k c
 
       -- the parties of a word
-      few-parties : (n : ℕ) → n ≤ 8 → (s : ℕ) → s < 2 ^ n → Small s
+      few-parties : (n : ℕ) → n ≤ 16 → (s : ℕ) → s < 2 ^ n → Small s
       few-parties n h s l = below-two n 16 s l (omega arith)
 
       pub client-able : ClientAble k w x
@@ -89,7 +96,7 @@ module _ {m : List ℕ} {s : ℕ} {x : Message} (g : Arrived AClient m s x) wher
           (either (asksDirectories (w .phase)))
 
       module _ (o : Outcome) (q : o ≡ outcome k (x .receiver) w x) where
-        pub client-turned : Turned m s x k w o
+        pub client-turned : Turned lay m s x k w o
         client-turned =
             let n = numbers in
             record {
@@ -97,27 +104,27 @@ module _ {m : List ℕ} {s : ℕ} {x : Message} (g : Arrived AClient m s x) wher
               slot = g .slot;
               low = g .low;
               high = g .high;
-              few = few-sets k (ready-numbers m (g .fine) k c);
+              few = few-sets (lay .directories) k (g .long .few) (ready-numbers lay m (g .fine) k c);
               able = record {
                 sender = g .sender;
                 low = facts .phase;
                 next = λ t h. omega (arith, facts .rounds, n .top-fits, next-room k (x .receiver) w x t (false-T (isEmpty x) (ne-eqb _ _ (g .some))) (sym q ∙ h));
               };
-              sent = client-few k n w x answered-few (few-parties (k .replicas) (omega (arith, n .few-replicas)) (w .replicas) (facts .set)) (g .set) (omega (arith, g .few)) (x .receiver) o;
+              sent = client-few (lay .directories) (g .long .few) k n w x answered-few (few-parties (k .replicas) (omega (arith, n .few-replicas)) (w .replicas) (facts .set)) (g .set) (omega (arith, g .few)) (x .receiver) o;
             }
 
         pub client-takes : (page p : List ℕ) (a : Answer) (l : List ℕ) → (w .down ≡ 1 → ⊥) → p ≡ filled o x page
-            → Committed m s (client (suc (x .receiver - 1)) (clientAfter w x o)) (clientPost k (x .receiver) w (clientAfter w x o) o) (answerOf (x .receiver) o) a l
-            → Took (step (deliver (suc s) page) (machineOf m)) a p m l
+            → Committed lay m s (client (suc (x .receiver - 1)) (clientAfter w x o)) (clientPost k (x .receiver) w (clientAfter w x o) o) (answerOf (x .receiver) o) a l
+            → Took lay (step (deliver (suc s) page) (machineOf lay m)) a p m l
         unfolding clientEffect clientPost
         client-takes page p a l f u v =
             lands g page (not-full g no-replica) (client (suc (x .receiver - 1)) (clientAfter w x o)) (clientPost k (x .receiver) w (clientAfter w x o) o)
             (answerOf (x .receiver) o) (filled o x page) effect (client-turned .sent) a p l v
-            (u ∙ filled-by x page o (hasRoom (machineOf m) (clientPost k (x .receiver) w (clientAfter w x o) o)) room)
+            (u ∙ filled-by x page o (hasRoom (machineOf lay m) (clientPost k (x .receiver) w (clientAfter w x o) o)) room)
           where
-            effect : deliverEffect (machineOf m) (suc s) page
+            effect : deliverEffect (machineOf lay m) (suc s) page
                 ≡ taken (suc s) (client (suc (x .receiver - 1)) (clientAfter w x o)) (clientPost k (x .receiver) w (clientAfter w x o) o) (answerOf (x .receiver) o) (filled o x page)
-            effect = effect-up g page (flag false (ne-eqb _ _ f)) ∙ rw (own g, q, c, conf-of m, here)
+            effect = effect-up g page (flag false (ne-eqb _ _ f)) ∙ rw (own g, q, c, conf-of lay m, here)
 
-            room : (t : Tag) → o ≡ ReadEnded t → hasRoom (machineOf m) (clientPost k (x .receiver) w (clientAfter w x o) o) ≡ true
-            room t h = rw h (room-none (machineOf m))
+            room : (t : Tag) → o ≡ ReadEnded t → hasRoom (machineOf lay m) (clientPost k (x .receiver) w (clientAfter w x o) o) ≡ true
+            room t h = rw h (room-none (machineOf lay m))

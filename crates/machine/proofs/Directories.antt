@@ -7,9 +7,12 @@ use native.Mathlib.Omega.{arith}
 use borrow.Author.Tests.{eq-eqb, ne-eqb}
 use lib.Dec.{eqb}
 use lib.ListN.{drop}
+use Rattle.tables.specs.Layouts.{extent}
 use Rattle.sets.specs.Sets.{only}
 use Rattle.sets.proofs.Laws.{only-lt}
 use Rattle.sets.proofs.Tests.{if-ind}
+use Rattle.tables.specs.Layouts.{base}
+use Rattle.tables.specs.declared.Layout.{Layout}
 use Rattle.tables.specs.declared.Conf.{Conf}
 use Rattle.tables.specs.declared.Directory.{Directory}
 use Rattle.tables.specs.declared.Message.{Message}
@@ -18,7 +21,7 @@ use Rattle.tables.specs.Tables.{Page, noMessage, directoryAt, withSlot}
 use Rattle.tables.specs.Words.{words}
 use Rattle.tables.specs.Machines.{confOf, machineOf}
 use Rattle.rules.specs.declared.Answer.{Answer}
-use Rattle.rules.specs.declared.Post.{Post}
+use Rattle.mail.specs.declared.Post.{Post}
 use Rattle.rules.specs.Answers.{coded}
 use Rattle.rules.specs.Directory.{directoryAfter, directoryPost}
 use Rattle.rules.specs.Inner.{DirectoryAble}
@@ -31,12 +34,12 @@ use Rattle.machine.proofs.Addressed.{Small, Sends}
 use Rattle.machine.proofs.Parties.{numbers-of}
 use Rattle.machine.proofs.Landings.{own, effect-up, lands, drops, not-full, page-kept}
 
-module _ {m : List ℕ} {s : ℕ} {x : Message} (g : Arrived ADirectory m s x) where
+module _ {lay : Layout} {m : List ℕ} {s : ℕ} {x : Message} (g : Arrived lay ADirectory m s x) where
   no-replica : ADirectory ≡ AReplica → ⊥
-  no-replica q = omega (arith, ap mostOf q)
+  no-replica q = omega (arith, ap (mostOf base) q)
 
   pub directory-able : (k : Conf) → k ≡ confOf m → DirectoryAble (k .f) x
-  directory-able k e = record { few = numbers-of m (g .fine) k e .few-crashes; sender = g .sender }
+  directory-able k e = record { few = numbers-of lay m (g .fine) k e .few-crashes; sender = g .sender }
 
   -- it replies to the sender alone
   pub directory-few : (d : Directory) (p : Post) → p ≡ directoryPost d x → Sends p
@@ -49,22 +52,22 @@ module _ {m : List ℕ} {s : ℕ} {x : Message} (g : Arrived ADirectory m s x) w
       (λ _. if-ind Sends (eqb (x .kind) 3) (λ _. h)
       (λ _. if-ind Sends (eqb (x .kind) 4) (λ _. h) (λ _. omega arith)))))
 
-  module _ (d : Directory) (e : d ≡ directoryAt (machineOf m) (suc (x .receiver - 1))) where
-    here : d ≡ directoryAt (machineOf m) (x .receiver)
-    here = e ∙ ap (λ (n : ℕ). directoryAt (machineOf m) n) (own g)
+  module _ (d : Directory) (e : d ≡ directoryAt (machineOf lay m) (suc (x .receiver - 1))) where
+    here : d ≡ directoryAt (machineOf lay m) (x .receiver)
+    here = e ∙ ap (λ (n : ℕ). directoryAt (machineOf lay m) n) (own g)
 
-    flag : (b : Bool) → eqb (d .down) 1 ≡ b → isDown (machineOf m) ADirectory (x .receiver) ≡ b
+    flag : (b : Bool) → eqb (d .down) 1 ≡ b → isDown (machineOf lay m) ADirectory (x .receiver) ≡ b
     flag b h = rw here at h
 
-    pub directory-down : (a : Answer) (l : List ℕ) → d .down ≡ 1 → a ≡ coded 4 → l ≡ words (withSlot (machineOf m) (suc s) noMessage) (drop 4992 m)
-        → Delivered (machineOf m) (suc s) a m l
+    pub directory-down : (a : Answer) (l : List ℕ) → d .down ≡ 1 → a ≡ coded 4 → l ≡ words (withSlot (machineOf lay m) (suc s) noMessage) (drop (extent lay) m)
+        → Delivered lay (machineOf lay m) (suc s) a m l
     directory-down a l f h k = record { took = λ page. drops g page (flag true (eq-eqb _ _ f)) (not-full g no-replica) a l h k }
 
     pub directory-takes : (k : Conf) (y : Directory) (p : Post) (a : Answer) (l : List ℕ) → (d .down ≡ 1 → ⊥) → k ≡ confOf m
-        → y ≡ directoryAfter (k .f) d x → p ≡ directoryPost d x → Committed m s (directory (suc (x .receiver - 1)) y) p (coded 0) a l
-        → Delivered (machineOf m) (suc s) a m l
+        → y ≡ directoryAfter (k .f) d x → p ≡ directoryPost d x → Committed lay m s (directory (suc (x .receiver - 1)) y) p (coded 0) a l
+        → Delivered lay (machineOf lay m) (suc s) a m l
     unfolding directoryEffect
-    directory-takes k y p a l f c v q w = record { took = λ page. lands g page (not-full g no-replica) (directory (suc (x .receiver - 1)) y) p (coded 0) page (effect page) (directory-few d p q) a page l w (page-kept (hasRoom (machineOf m) p) page) }
+    directory-takes k y p a l f c v q w = record { took = λ page. lands g page (not-full g no-replica) (directory (suc (x .receiver - 1)) y) p (coded 0) page (effect page) (directory-few d p q) a page l w (page-kept (hasRoom (machineOf lay m) p) page) }
       where
-        effect : (page : Page) → deliverEffect (machineOf m) (suc s) page ≡ taken (suc s) (directory (suc (x .receiver - 1)) y) p (coded 0) page
-        effect page = effect-up g page (flag false (ne-eqb _ _ f)) ∙ rw (own g, v, q, c, conf-of m, here)
+        effect : (page : Page) → deliverEffect (machineOf lay m) (suc s) page ≡ taken (suc s) (directory (suc (x .receiver - 1)) y) p (coded 0) page
+        effect page = effect-up g page (flag false (ne-eqb _ _ f)) ∙ rw (own g, v, q, c, conf-of lay m, here)

@@ -7,21 +7,25 @@ use native.Mathlib.Nat.{mul-le-mul-right, add-zero}
 use native.Mathlib.Omega.{arith}
 use borrow.Author.Tests.{eq-eqb, ne-eqb}
 use lib.Dec.{eqb}
-use lib.ListN.{length, getD, drop}
+use lib.ListN.{length, getD, take, drop}
 use lib.Seq.{getD-drop}
 use Rattle.sets.specs.Plain.{if_then_else_}
+use Rattle.tables.specs.Layouts.{flagsAt, entriesAt}
+use Rattle.tables.specs.declared.Layout.{Layout}
 use Rattle.tables.specs.Rows.{count}
-use Rattle.tables.specs.Machines.{rowsOf, clientOf, directoryOf, replicasOf, machineOf}
+use Rattle.tables.specs.Machines.{rowsOf, clientsOf, directoriesOf, clientOf, directoryOf, replicasOf, machineOf}
 use Rattle.tables.specs.Tables.{isEmpty}
-use Rattle.tables.proofs.Read.{slots-many}
+use Rattle.tables.proofs.Read.{its-slots}
+use Rattle.tables.proofs.Parts.{rest-all}
 use Rattle.tables.proofs.Table.{wider, length-rowsOf, getD-rowsOf}
-use Rattle.machine.proofs.Places.{count-le, few-empty}
+use Rattle.mail.specs.Slots.{emptySlots}
+use Rattle.mail.proofs.Messages.{count-le}
 use Rattle.tables.proofs.Loops.{counted, not-counted, counted-all}
 use Rattle.machine.specs.Steps.{waiting, partiesDown}
 use Rattle.machine.specs.Inner.{RowsIn, isOne, firstWord, firstWords, counts}
 
-module _ (m : List ℕ) (at w n i : ℕ) where
-  pub row-in : RowsIn m at w n → i < n → at + i * w < length m
+module _ (l : List ℕ) (w n i : ℕ) where
+  pub row-in : RowsIn l w n → i < n → i * w < length l
   row-in r h =
       let more : suc i * w ≤ n * w = mul-le-mul-right w h in
       let last : w + i * w ≤ n * w = rw (wider i w) at more in
@@ -29,24 +33,24 @@ module _ (m : List ℕ) (at w n i : ℕ) where
       let b = r .some in
       omega arith
 
-  words-many : length (firstWords m at w n) ≡ n
+  words-many : length (firstWords l w n) ≡ n
   unfolding firstWords
-  words-many = length-rowsOf firstWord n w (drop at m)
+  words-many = length-rowsOf firstWord n w l
 
-  word-is : i < n → getD (firstWords m at w n) i 0 ≡ getD m (at + i * w) 0
+  word-is : i < n → getD (firstWords l w n) i 0 ≡ getD l (i * w) 0
   unfolding firstWords
-  word-is h = getD-rowsOf firstWord n w at m i 0 h ∙ getD-drop (at + i * w) m 0 0 ∙ rw (add-zero (at + i * w))
+  word-is h = getD-rowsOf firstWord n w l i 0 h ∙ getD-drop (i * w) l 0 0 ∙ rw (add-zero (i * w))
 
   -- a turn of the loop, with d rows counted
-  module _ (d t : ℕ) (e : d + count isOne (drop i (firstWords m at w n)) ≡ t) where
-    pub is-down : i < n → getD m (at + i * w) 0 ≡ 1 → d + 1 + count isOne (drop (i + 1) (firstWords m at w n)) ≡ t
-    is-down h q = counted 0 (firstWords m at w n) n words-many i h isOne t d e (rw (word-is h) (eq-eqb _ _ q))
+  module _ (d t : ℕ) (e : d + count isOne (drop i (firstWords l w n)) ≡ t) where
+    pub is-down : i < n → getD l (i * w) 0 ≡ 1 → d + 1 + count isOne (drop (i + 1) (firstWords l w n)) ≡ t
+    is-down h q = counted 0 (firstWords l w n) n words-many i h isOne t d e (rw (word-is h) (eq-eqb _ _ q))
 
-    pub is-up : i < n → (getD m (at + i * w) 0 ≡ 1 → ⊥) → d + count isOne (drop (i + 1) (firstWords m at w n)) ≡ t
-    is-up h q = not-counted 0 (firstWords m at w n) n words-many i h isOne t d e (rw (word-is h) (ne-eqb _ _ q))
+    pub is-up : i < n → (getD l (i * w) 0 ≡ 1 → ⊥) → d + count isOne (drop (i + 1) (firstWords l w n)) ≡ t
+    is-up h q = not-counted 0 (firstWords l w n) n words-many i h isOne t d e (rw (word-is h) (ne-eqb _ _ q))
 
     pub downs-all : n ≤ i → d ≡ t
-    downs-all h = counted-all (firstWords m at w n) n words-many i h isOne t d e
+    downs-all h = counted-all (firstWords l w n) n words-many i h isOne t d e
 
 -- ---- the counts
 
@@ -67,31 +71,34 @@ module _ {A : Type 0} (p : A → Bool) where
   count-rows q g h e zero w l = refl
   count-rows q g h e (suc n) w l = rw (e l, count-rows q g h e n w (drop w l))
 
-module _ (m : List ℕ) where
-  pub some-empty : (e : ℕ) → e ≡ count isEmpty (machineOf m .slots) → e ≤ 128
-  some-empty e q = omega (arith, few-empty m)
+pub few-down : (l : List ℕ) (d w n : ℕ) → d ≡ count isOne (firstWords l w n) → d ≤ n
+few-down l d w n q = omega (arith, count-le isOne (firstWords l w n), words-many l w n 0)
 
-  pub few-down : (d at w n : ℕ) → d ≡ count isOne (firstWords m at w n) → d ≤ n
-  few-down d at w n q = omega (arith, count-le isOne (firstWords m at w n), words-many m at w n 0)
+replicas-down : (n : ℕ) (flags l : List ℕ) → count (λ r. eqb (r .down) 1) (replicasOf n flags l) ≡ count isOne (rowsOf firstWord n 1 flags)
+unfolding replicasOf rowsOf
+replicas-down zero flags l = refl
+replicas-down (suc n) flags l = rw (replicas-down n (drop 1 flags) (drop 240 l))
 
-  replicas-down : (n : ℕ) (flags l : List ℕ) → count (λ r. eqb (r .down) 1) (replicasOf n flags l) ≡ count isOne (rowsOf firstWord n 1 flags)
-  unfolding replicasOf rowsOf
-  replicas-down zero flags l = refl
-  replicas-down (suc n) flags l = rw (replicas-down n (drop 1 flags) (drop 240 l))
+module _ (lay : Layout) (m : List ℕ) where
+  pub some-empty : (e : ℕ) → e ≡ emptySlots (machineOf lay m .slots) → e ≤ 128
+  some-empty e q = omega (arith, count-le isEmpty (machineOf lay m .slots), its-slots lay m)
 
-  waits : (e : ℕ) → e ≡ count isEmpty (machineOf m .slots) → 128 - e ≡ waiting (machineOf m)
+  waits : (e : ℕ) → e ≡ emptySlots (machineOf lay m .slots) → 128 - e ≡ waiting (machineOf lay m)
   unfolding waiting
-  waits e q = omega (arith, count-not isEmpty (machineOf m .slots), slots-many m)
+  waits e q = omega (arith, count-not isEmpty (machineOf lay m .slots), its-slots lay m)
 
-  downs : count isOne (firstWords m 16 24 8) + count isOne (firstWords m 208 4 5) + count isOne (firstWords m 228 1 7) ≡ partiesDown (machineOf m)
-  unfolding partiesDown firstWords machineOf clientOf directoryOf
+  downs : count isOne (firstWords (drop 16 m) 24 8) + count isOne (firstWords (drop 208 m) 4 (lay .directories)) + count isOne (firstWords (drop (flagsAt lay) m) 1 7)
+      ≡ partiesDown (machineOf lay m)
+  unfolding partiesDown firstWords machineOf clientsOf directoriesOf clientOf directoryOf
   downs =
       rw (
         count-rows (λ w. eqb (w .down) 1) isOne clientOf firstWord (λ l. refl) 8 24 (drop 16 m),
-        count-rows (λ w. eqb (w .down) 1) isOne directoryOf firstWord (λ l. refl) 5 4 (drop 208 m),
-        replicas-down 7 (drop 228 m) (drop 240 m),
+        count-rows (λ w. eqb (w .down) 1) isOne directoryOf firstWord (λ l. refl) (lay .directories) 4 (drop 208 m),
+        replicas-down 7 (drop (flagsAt lay) m) (drop (entriesAt lay) m),
       )
 
-  pub reports : (e c d r : ℕ) → e ≡ count isEmpty (machineOf m .slots) → c ≡ count isOne (firstWords m 16 24 8) → d ≡ count isOne (firstWords m 208 4 5)
-      → r ≡ count isOne (firstWords m 228 1 7) → record { code = 0; waiting = 128 - e; down = c + d + r } ≡ counts (machineOf m)
-  reports e c d r qe qc qd qr = rw (waits e qe, qc, qd, qr, downs)
+  -- the rows are lent, the flags from place `at` on
+  pub reports : (e c d r at : ℕ) → at ≡ flagsAt lay → e ≡ emptySlots (machineOf lay m .slots) → c ≡ count isOne (firstWords (take (length m - 16) (drop 16 m)) 24 8)
+      → d ≡ count isOne (firstWords (take (length m - 208) (drop 208 m)) 4 (lay .directories)) → r ≡ count isOne (firstWords (take (length m - at) (drop at m)) 1 7)
+      → record { code = 0; waiting = 128 - e; down = c + d + r } ≡ counts (machineOf lay m)
+  reports e c d r at p qe qc qd qr = rw (waits e qe, qc, qd, qr, rest-all m 16, rest-all m 208, rest-all m at, p, downs)

@@ -1,28 +1,31 @@
 -- Set-up: the words zeroed, the numbers written, and then each directory and each replica.
-use mathlib.Core.Path.{_≡_, refl, ap, _∙_}
-use mathlib.Core.List.{List, [], _∷_, _++_, map, append-nil}
-use Prim.Native.Nat.{ℕ, zero, suc, _+_, _-_, _≤_, _<_}
-use native.Mathlib.Nat.{not-suc-le-zero, le-of-suc-le-suc}
+use mathlib.Core.Path.{_≡_, refl, sym, ap, _∙_}
+use mathlib.Core.List.{List, [], _∷_, _++_, map, append-nil, append-assoc}
+use Prim.Native.Nat.{ℕ, zero, suc, _+_, _*_, _-_, _≤_, _<_}
+use native.Mathlib.Nat.{zero-add, suc-add, not-suc-le-zero, le-of-suc-le-suc}
 use native.Mathlib.Decide.{decLe}
 use native.Mathlib.Numerals.{add-one}
 use native.Mathlib.Omega.{arith}
 use borrow.Author.Fill.{fill-more}
 use borrow.Author.Tests.{le-leb, lt-leb}
 use lib.Dec.{leb}
-use lib.ListN.{length, getD, set, drop, replicate, length-set, length-drop}
+use lib.ListN.{length, getD, set, drop, replicate, length-set, length-drop, length-replicate}
+use Rattle.tables.specs.Layouts.{extent}
 use Rattle.sets.specs.Plain.{if_then_else_, numbers}
 use Rattle.sets.specs.Tags.{first}
 use Rattle.sets.specs.Sets.{all}
+use Rattle.tables.specs.declared.Layout.{Layout}
 use Rattle.tables.specs.declared.Conf.{Conf}
 use Rattle.tables.specs.declared.Directory.{Directory}
 use Rattle.tables.specs.declared.Entry.{Entry}
 use Rattle.tables.specs.Rows.{rowsWords, joined}
-use Rattle.tables.specs.Inner.{put, withEntry}
+use Rattle.tables.specs.Inner.{Fits, put, withEntry}
 use Rattle.tables.specs.Tables.{Page, Machine, noPage, noClient, noDirectory, noEntry, noReplica, noMessage, withDirectory}
 use Rattle.tables.specs.Words.{confWords, clientWords, directoryWords, downWords, entryWords, replicaWords, messageWords, blocks, words}
 use Rattle.tables.specs.Machines.{machineOf}
+use Rattle.tables.proofs.Table.{wider}
 use Rattle.tables.proofs.All.{all-replicate}
-use Rattle.tables.proofs.Read.{directories-many, replicas-many}
+use Rattle.tables.proofs.Read.{its-room, its-replicas}
 use Rattle.tables.proofs.Whole.{Paged, Whole, blank-client, blank-message, blank-replica, whole-directory, whole-entry}
 use Rattle.tables.proofs.Holds.{Holds, holds-length, holds-machine, holds-rest, holds-step}
 use Rattle.rules.specs.Replica.{entry}
@@ -39,12 +42,12 @@ pub record Zeroed (m₀ : List ℕ) (i : ℕ) (m : List ℕ) : Type 0 where
 pub zeroed-none : (m : List ℕ) → Zeroed m 0 m
 zeroed-none m = record { words = refl; same = refl }
 
-module _ (m₀ m : List ℕ) (i : ℕ) (z : Zeroed m₀ i m) where
-  pub zeroed-more : i < 4992 → 4992 ≤ length m₀ → Zeroed m₀ (i + 1) (set m i 0)
+module _ (lay : Layout) (m₀ m : List ℕ) (i end : ℕ) (z : Zeroed m₀ i m) (whole : end ≡ extent lay) where
+  pub zeroed-more : i < end → Fits lay m₀ → Zeroed m₀ (i + 1) (set m i 0)
   zeroed-more h g = record { words = rw (z .words) (fill-more i 0 m₀ (omega arith)); same = simp length-set (z .same) }
 
-  pub zeroed-all : i ≤ 4992 → 4992 ≤ i → m ≡ replicate 4992 0 ++ drop 4992 m₀
-  zeroed-all h g = let e : i ≡ 4992 = omega arith in z .words ∙ ap (λ (n : ℕ). replicate n 0 ++ drop n m₀) e
+  pub zeroed-all : i ≤ end → end ≤ i → m ≡ replicate (extent lay) 0 ++ drop (extent lay) m₀
+  zeroed-all h g = let e : i ≡ extent lay = omega arith in z .words ∙ ap (λ (n : ℕ). replicate n 0 ++ drop n m₀) e
 
 -- ---- rows from the first on
 
@@ -83,52 +86,64 @@ module _ {A : Type 0} (f : A → A) where
 
 -- ---- the loops; m₀ is the buffer before
 
-pub holds-same : (m₀ m : List ℕ) {M : Machine} → 4992 ≤ length m₀ → Holds m M (drop 4992 m₀) → length m ≡ length m₀
-holds-same m₀ m g h = omega (arith, holds-length h, length-drop 4992 m₀)
+pub holds-same : (lay : Layout) (m₀ m : List ℕ) {M : Machine} → Fits lay m₀ → Holds lay m M (drop (extent lay) m₀) → length m ≡ length m₀
+holds-same lay m₀ m g h = omega (arith, holds-length h, length-drop (extent lay) m₀)
 
-module _ (m₀ m l : List ℕ) (i n : ℕ) (less : i < n) where
-  pub directory-more : (x : Directory) → n ≤ 5 → Holds m (withDirectories (machineOf m₀) i x) (drop 4992 m₀)
-      → l ≡ words (withDirectory (machineOf m) (suc i) x) (drop 4992 m) → Holds l (withDirectories (machineOf m₀) (i + 1) x) (drop 4992 m₀)
+module _ (lay : Layout) (m₀ m l : List ℕ) (i n : ℕ) (less : i < n) where
+  pub directory-more : (x : Directory) → n ≤ lay .directories → Holds lay m (withDirectories (machineOf lay m₀) i x) (drop (extent lay) m₀)
+      → l ≡ words (withDirectory (machineOf lay m) (suc i) x) (drop (extent lay) m) → Holds lay l (withDirectories (machineOf lay m₀) (i + 1) x) (drop (extent lay) m₀)
   directory-more x b h e =
-      let r : i < length (machineOf m₀ .directories) = rw directories-many (omega arith) in
-      rw (add-one i, ← rows-more (λ d. x) (machineOf m₀ .directories) i x r)
+      let r : i < length (machineOf lay m₀ .directories) = rw its-room (omega arith) in
+      rw (add-one i, ← rows-more (λ d. x) (machineOf lay m₀ .directories) i x r)
       (holds-step h (λ N. withDirectory N (suc i) x) l e (whole-directory (h .whole) (suc i) x))
 
-  pub replica-more : (x : Entry) → n ≤ 7 → Paged (x .page) → Holds m (withReplicas (machineOf m₀) i x) (drop 4992 m₀)
-      → l ≡ words (withEntry (machineOf m) (suc i) (suc 0) x) (drop 4992 m) → Holds l (withReplicas (machineOf m₀) (i + 1) x) (drop 4992 m₀)
+  pub replica-more : (x : Entry) → n ≤ 7 → Paged (x .page) → Holds lay m (withReplicas (machineOf lay m₀) i x) (drop (extent lay) m₀)
+      → l ≡ words (withEntry (machineOf lay m) (suc i) (suc 0) x) (drop (extent lay) m) → Holds lay l (withReplicas (machineOf lay m₀) (i + 1) x) (drop (extent lay) m₀)
   replica-more x b p h e =
-      let r : i < length (machineOf m₀ .replicas) = rw replicas-many (omega arith) in
-      rw (add-one i, ← rows-more (withFirst x) (machineOf m₀ .replicas) i noReplica r)
+      let r : i < length (machineOf lay m₀ .replicas) = rw its-replicas (omega arith) in
+      rw (add-one i, ← rows-more (withFirst x) (machineOf lay m₀ .replicas) i noReplica r)
       (holds-step h (λ N. withEntry N (suc i) 1 x) l e (whole-entry (h .whole) (suc i) 1 x p))
 
-module _ (m t : List ℕ) (M : Machine) (i n : ℕ) (a : i ≤ n) (b : n ≤ i) where
+module _ (lay : Layout) (m t : List ℕ) (M : Machine) (i n : ℕ) (a : i ≤ n) (b : n ≤ i) where
   same-count : i ≡ n
   same-count = omega arith
 
-  pub directories-end : (x : Directory) → Holds m (withDirectories M i x) t → m ≡ words (withDirectories M n x) t
+  pub directories-end : (x : Directory) → Holds lay m (withDirectories M i x) t → m ≡ words (withDirectories M n x) t
   directories-end x h = rw (← same-count) (h .is)
 
-  pub replicas-end : (x : Entry) → Holds m (withReplicas M i x) t → m ≡ words (withReplicas M n x) t
+  pub replicas-end : (x : Entry) → Holds lay m (withReplicas M i x) t → m ≡ words (withReplicas M n x) t
   replicas-end x h = rw (← same-count) (h .is)
 
 -- ---- the whole of set-up
 
-words-blank : (k : Conf) (t : List ℕ) → put (replicate 4992 0 ++ t) 0 (confWords k) ≡ words (blank k) t
-unfolding blank put words blocks joined rowsWords confWords clientWords directoryWords downWords entryWords replicaWords messageWords noPage noClient noDirectory noEntry noReplica noMessage
-words-blank k t = rw (append-nil t)
+zeros-add : (a b : ℕ) → _≡_ {A = List ℕ} (replicate (a + b) 0) (replicate a 0 ++ replicate b 0)
+zeros-add zero b = rw (zero-add b)
+zeros-add (suc a) b = rw (suc-add a b) (ap (λ (q : List ℕ). 0 ∷ q) (zeros-add a b))
 
-pub cleared : (k : Conf) (m a b : List ℕ) → a ≡ replicate 4992 0 ++ drop 4992 m
-    → b ≡ put a 0 (k .clients ∷ k .directories ∷ k .replicas ∷ k .f ∷ k .rq ∷ k .wq ∷ k .top ∷ []) → b ≡ words (blank k) (drop 4992 m)
+-- directory rows not in use
+rows-zero : (d : ℕ) → rowsWords directoryWords (replicate d noDirectory) ≡ replicate (d * 4) 0
+unfolding rowsWords directoryWords noDirectory
+rows-zero zero = refl
+rows-zero (suc d) = ap (λ (q : List ℕ). 0 ∷ 0 ∷ 0 ∷ 0 ∷ q) (rows-zero d) ∙ sym (ap (λ (n : ℕ). replicate n 0) (wider d 4) ∙ zeros-add 4 (d * 4))
+
+words-blank : (d : ℕ) (k : Conf) (t : List ℕ) → put (replicate (4972 + d * 4) 0 ++ t) 0 (confWords k) ≡ words (blank d k) t
+unfolding blank put words blocks joined rowsWords confWords clientWords downWords entryWords replicaWords messageWords noPage noClient noEntry noReplica noMessage
+words-blank d k t =
+    let n : 4972 + d * 4 ≡ 208 + (d * 4 + 4764) = omega arith in
+    rw (n, zeros-add 208 (d * 4 + 4764), zeros-add (d * 4) 4764, rows-zero d, append-nil t) (simp append-assoc)
+
+pub cleared : (lay : Layout) (k : Conf) (m a b : List ℕ) → a ≡ replicate (extent lay) 0 ++ drop (extent lay) m
+    → b ≡ put a 0 (k .clients ∷ k .directories ∷ k .replicas ∷ k .f ∷ k .rq ∷ k .wq ∷ k .top ∷ []) → b ≡ words (blank (lay .directories) k) (drop (extent lay) m)
 unfolding confWords
-cleared k m a b e f = f ∙ ap (λ (q : List ℕ). put q 0 (confWords k)) e ∙ words-blank k (drop 4992 m)
+cleared lay k m a b e f = f ∙ ap (λ (q : List ℕ). put q 0 (confWords k)) e ∙ words-blank (lay .directories) k (drop (extent lay) m)
 
-whole-blank : (k : Conf) → Whole (blank k)
+whole-blank : (lay : Layout) (k : Conf) → Whole lay (blank (lay .directories) k)
 unfolding blank
-whole-blank k =
+whole-blank lay k =
     record {
       spare = refl;
       clients = refl;
-      directories = refl;
+      directories = length-replicate (lay .directories) noDirectory;
       gap = refl;
       replicas = refl;
       slots = refl;
@@ -137,29 +152,29 @@ whole-blank k =
       slot-pages = all-replicate 128 noMessage blank-message;
     }
 
-module _ (k : Conf) (page : Page) where
+module _ (lay : Layout) (k : Conf) (page : Page) where
   abbrev row-of : Directory
   row-of = record { down = 0; tag = first; set = all (k .replicas) }
 
   abbrev with-rows : Machine
-  with-rows = withDirectories (blank k) (k .directories) row-of
+  with-rows = withDirectories (blank (lay .directories) k) (k .directories) row-of
 
-  whole-rows : Whole with-rows
+  whole-rows : Whole lay with-rows
   unfolding blank
   whole-rows =
       record {
         spare = refl;
         clients = refl;
-        directories = length-firstRows (λ d. row-of) (k .directories) (replicate 5 noDirectory);
+        directories = length-firstRows (λ d. row-of) (k .directories) (replicate (lay .directories) noDirectory) ∙ length-replicate (lay .directories) noDirectory;
         gap = refl;
         replicas = refl;
         slots = refl;
-        client-pages = whole-blank k .client-pages;
-        stocks = whole-blank k .stocks;
-        slot-pages = whole-blank k .slot-pages;
+        client-pages = whole-blank lay k .client-pages;
+        stocks = whole-blank lay k .stocks;
+        slot-pages = whole-blank lay k .slot-pages;
       }
 
-  laid-is : withReplicas with-rows (k .replicas) (entry 2 first page) ≡ newMachine k page
+  laid-is : withReplicas with-rows (k .replicas) (entry 2 first page) ≡ newMachine (lay .directories) k page
   unfolding newMachine blank noReplica
   laid-is =
       λ j.
@@ -167,20 +182,20 @@ module _ (k : Conf) (page : Page) where
         conf = k;
         spare = replicate 9 0;
         clients = replicate 8 noClient;
-        directories = rows-first (λ d. row-of) noDirectory (k .directories) 5 j;
+        directories = rows-first (λ d. row-of) noDirectory (k .directories) (lay .directories) j;
         gap = replicate 5 0;
         replicas = rows-first (withFirst (entry 2 first page)) noReplica (k .replicas) 7 j;
         slots = replicate 128 noMessage;
       }
 
   -- the writes one after the other
-  pub laid : (m b c d : List ℕ) (s : ℕ) → b ≡ words (blank k) (drop 4992 m) → s ≡ all (k .replicas)
-      → c ≡ words (withDirectories (machineOf b) (k .directories) (record { down = 0; tag = first; set = s })) (drop 4992 b)
-      → d ≡ words (withReplicas (machineOf c) (k .replicas) (record { state = 2; tag = first; spare = 0; page = page })) (drop 4992 c)
-      → d ≡ words (newMachine k page) (drop 4992 m)
+  pub laid : (m b c d : List ℕ) (s : ℕ) → b ≡ words (blank (lay .directories) k) (drop (extent lay) m) → s ≡ all (k .replicas)
+      → c ≡ words (withDirectories (machineOf lay b) (k .directories) (record { down = 0; tag = first; set = s })) (drop (extent lay) b)
+      → d ≡ words (withReplicas (machineOf lay c) (k .replicas) (record { state = 2; tag = first; spare = 0; page = page })) (drop (extent lay) c)
+      → d ≡ words (newMachine (lay .directories) k page) (drop (extent lay) m)
   laid m b c d s zb zs zc zd =
-      let hb : Holds b (blank k) (drop 4992 m) = record { is = zb; whole = whole-blank k } in
-      let hc : Holds c with-rows (drop 4992 m) = holds-step hb (λ N. withDirectories N (k .directories) row-of) c (rw zs at zc) whole-rows in
+      let hb : Holds lay b (blank (lay .directories) k) (drop (extent lay) m) = record { is = zb; whole = whole-blank lay k } in
+      let hc : Holds lay c with-rows (drop (extent lay) m) = holds-step hb (λ N. withDirectories N (k .directories) row-of) c (rw zs at zc) whole-rows in
       zd
-      ∙ ap (λ (N : Machine). words (withReplicas N (k .replicas) (entry 2 first page)) (drop 4992 c)) (holds-machine hc)
+      ∙ ap (λ (N : Machine). words (withReplicas N (k .replicas) (entry 2 first page)) (drop (extent lay) c)) (holds-machine hc)
       ∙ rw (holds-rest hc, laid-is)

@@ -1,8 +1,7 @@
--- The laws behind the functions. `runs` and `history` cite Places and Quiet; the rest and the functions' proofs may change freely.
+-- The laws behind the functions. `runs` and `history` cite Quiet; the rest and the functions' proofs may change freely.
 pub mod Parties
-pub mod Places
-pub mod Sending
 pub mod Steps
+pub mod Mailed
 pub mod Stored
 pub mod Arrivals
 pub mod Landings

@@ -5,9 +5,11 @@ use mathlib.Core.List.{List}
 use Prim.Native.Nat.{ℕ, suc, _-_, _≤_, _<_}
 use native.Mathlib.Omega.{arith}
 use borrow.Author.Tests.{not-false}
+use Rattle.tables.specs.declared.Layout.{Layout}
 use Rattle.tables.specs.declared.Conf.{Conf}
 use Rattle.tables.specs.declared.Party.{Party}
 use Rattle.tables.specs.Machines.{confOf, machineOf}
+use Rattle.tables.proofs.Read.{its-room}
 use Rattle.inspect.specs.Good.{between, isParty, goodNumbers, good}
 use Rattle.inspect.proofs.Tests.{le-by}
 use Rattle.inspect.proofs.Facts.{NumbersFacts, numbers-facts}
@@ -29,30 +31,30 @@ module _ (id n : ℕ) (b : Bool) (e : b ≡ between 1 n id) (h : not b ≡ false
   pub party-row : suc (id - 1) ≡ id
   party-row = omega (arith, party-low)
 
-pub own-party : (m : List ℕ) (k : Conf) → k ≡ confOf m → (who : Party) (id : ℕ) (b : Bool) → b ≡ isParty k who id → isParty (machineOf m .conf) who id ≡ b
+pub own-party : (lay : Layout) (m : List ℕ) (k : Conf) → k ≡ confOf m → (who : Party) (id : ℕ) (b : Bool) → b ≡ isParty k who id → isParty (machineOf lay m .conf) who id ≡ b
 unfolding machineOf
-own-party m k at who id b e = rw (← at, e)
+own-party lay m k at who id b e = rw (← at, e)
 
 -- the numbers of a machine that is not bad
-pub ready-numbers : (m : List ℕ) → good m ≡ true → (k : Conf) → k ≡ confOf m → goodNumbers k ≡ true
+pub ready-numbers : (lay : Layout) (m : List ℕ) → good lay m ≡ true → (k : Conf) → k ≡ confOf m → goodNumbers (lay .directories) k ≡ true
 unfolding machineOf
-ready-numbers m g k at = rw at (numbers-pass (machineOf m) (good-machine m g))
+ready-numbers lay m g k at = rw (at, ← its-room lay m) (numbers-pass (machineOf lay m) (good-machine lay m g))
 
-pub numbers-of : (m : List ℕ) → good m ≡ true → (k : Conf) → k ≡ confOf m → NumbersFacts k
-numbers-of m g k at = numbers-facts k (ready-numbers m g k at)
+pub numbers-of : (lay : Layout) (m : List ℕ) → good lay m ≡ true → (k : Conf) → k ≡ confOf m → NumbersFacts (lay .directories) k
+numbers-of lay m g k at = numbers-facts (lay .directories) k (ready-numbers lay m g k at)
 
-pub few-sets : (k : Conf) → goodNumbers k ≡ true → Few k
-few-sets k g = let n = numbers-facts k g in record { directories = omega arith; replicas = omega arith }
+pub few-sets : (d : ℕ) (k : Conf) → d ≤ 16 → goodNumbers d k ≡ true → Few k
+few-sets d k h g = let n = numbers-facts d k g in record { directories = omega arith; replicas = omega arith }
 
-module _ (m : List ℕ) (g : Ready m) (k : Conf) (at : k ≡ confOf m) (id : ℕ) (b : Bool) (h : not b ≡ false) where
-  numbers : NumbersFacts k
-  numbers = numbers-of m (g .fine) k at
+module _ (lay : Layout) (m : List ℕ) (g : Ready lay m) (k : Conf) (at : k ≡ confOf m) (id : ℕ) (b : Bool) (h : not b ≡ false) where
+  numbers : NumbersFacts (lay .directories) k
+  numbers = numbers-of lay m (g .fine) k at
 
   pub client-place : b ≡ between 1 (k .clients) id → id - 1 < 8
   client-place e = omega (arith, numbers .few-clients, party-high id (k .clients) b e h)
 
-  pub directory-place : b ≡ between 1 (k .directories) id → id - 1 < 5
-  directory-place e = omega (arith, numbers .few-directories, party-high id (k .directories) b e h)
+  pub directory-place : b ≡ between 1 (k .directories) id → id - 1 < lay .directories
+  directory-place e = omega (arith, numbers .few-directories, party-low id (k .directories) b e h, party-high id (k .directories) b e h)
 
   pub replica-place : b ≡ between 1 (k .replicas) id → id - 1 < 7
   replica-place e = omega (arith, numbers .few-replicas, party-high id (k .replicas) b e h)

@@ -1,19 +1,15 @@
 -- A step that sends nothing: it has room, and changes one row at most.
-use mathlib.Core.Path.{_≡_, refl}
+use mathlib.Core.Path.{_≡_}
 use mathlib.Core.Bool.{false}
-use mathlib.Core.List.{[]}
 use native.Mathlib.Omega.{arith}
 use borrow.Author.Tests.{le-ltb}
 use Rattle.tables.specs.Tables.{Machine}
-use Rattle.rules.specs.Posts.{noPost, messagesOf}
-use Rattle.machine.specs.Slots.{emptySlots}
+use Rattle.mail.specs.Posts.{noPost}
+use Rattle.mail.specs.Slots.{emptySlots}
+use Rattle.mail.proofs.Messages.{no-messages}
 use Rattle.machine.specs.Effects.{Change, nothing, client, directory, replica, changed, applied}
 use Rattle.machine.specs.Calls.{done}
 use Rattle.machine.specs.Refusals.{noSlot}
-
-pub no-messages : messagesOf noPost ≡ []
-unfolding messagesOf
-no-messages = refl
 
 pub quiet-fits : (M : Machine) (change : Change) → noSlot M (done change noPost) ≡ false
 quiet-fits M change = rw no-messages (le-ltb (emptySlots (M .slots)) 0 (omega arith))

@@ -5,6 +5,8 @@ use mathlib.Core.List.{List}
 use Prim.Native.Nat.{ℕ, suc, _-_, _<_}
 use native.Mathlib.Omega.{arith}
 use borrow.Author.Tests.{eq-eqb}
+use Rattle.tables.specs.Layouts.{base}
+use Rattle.tables.specs.declared.Layout.{Layout}
 use Rattle.tables.specs.declared.Message.{Message}
 use Rattle.tables.specs.declared.Party.{Party}
 use Rattle.tables.specs.declared.Party.the-variants.{Nobody, AClient, ADirectory, AReplica}
@@ -23,13 +25,13 @@ use Rattle.machine.proofs.Parties.{party-low, party-high, party-row}
 use Rattle.machine.proofs.Landings.{tested-18, tested-22}
 use Rattle.machine.proofs.Arrivals.{is-void, arrived}
 
-module _ (m : List ℕ) (slot : ℕ) (g : Ready m) (b : Bool) (r : b ≡ between 1 128 slot) where
-  pub bad-slot : (page : List ℕ) (a : Answer) → not b ≡ true → a ≡ coded 18 → Took (step (deliver slot page) (machineOf m)) a page m m
+module _ (lay : Layout) (m : List ℕ) (slot : ℕ) (g : Ready lay m) (b : Bool) (r : b ≡ between 1 128 slot) where
+  pub bad-slot : (page : List ℕ) (a : Answer) → not b ≡ true → a ≡ coded 18 → Took lay (step (deliver slot page) (machineOf lay m)) a page m m
   unfolding refusal
   bad-slot page a n h =
-      took-refused (deliver slot page) m 18 a (g .long) (λ z. omega arith)
-      (tested-18 (not (between 1 128 slot)) (isEmpty (slotAt (machineOf m) slot)) (isOverfull (machineOf m) (slotAt (machineOf m) slot))
-      (noSlot (machineOf m) (effectOf (deliver slot page) (machineOf m))) (ap not (sym r) ∙ n))
+      took-refused lay (deliver slot page) m 18 a (g .long) (λ z. omega arith)
+      (tested-18 (not (between 1 128 slot)) (isEmpty (slotAt (machineOf lay m) slot)) (isOverfull (machineOf lay m) (slotAt (machineOf lay m) slot))
+      (noSlot (machineOf lay m) (effectOf (deliver slot page) (machineOf lay m))) (ap not (sym r) ∙ n))
       h
 
   module _ (n : not b ≡ false) where
@@ -39,29 +41,29 @@ module _ (m : List ℕ) (slot : ℕ) (g : Ready m) (b : Bool) (r : b ≡ between
     from-one : suc (slot - 1) ≡ slot
     from-one = party-row slot 128 b r n
 
-    pub by-client : (page p : List ℕ) (a : Answer) (l : List ℕ) → Took (step (deliver (suc (slot - 1)) page) (machineOf m)) a p m l
-        → Took (step (deliver slot page) (machineOf m)) a p m l
-    by-client page p a l t = subst (λ (k : ℕ). Took (step (deliver k page) (machineOf m)) a p m l) from-one t
+    pub by-client : (page p : List ℕ) (a : Answer) (l : List ℕ) → Took lay (step (deliver (suc (slot - 1)) page) (machineOf lay m)) a p m l
+        → Took lay (step (deliver slot page) (machineOf lay m)) a p m l
+    by-client page p a l t = subst (λ (k : ℕ). Took lay (step (deliver k page) (machineOf lay m)) a p m l) from-one t
 
-    pub by-other : (page : List ℕ) (a : Answer) (l : List ℕ) → Delivered (machineOf m) (suc (slot - 1)) a m l
-        → Took (step (deliver slot page) (machineOf m)) a page m l
+    pub by-other : (page : List ℕ) (a : Answer) (l : List ℕ) → Delivered lay (machineOf lay m) (suc (slot - 1)) a m l
+        → Took lay (step (deliver slot page) (machineOf lay m)) a page m l
     by-other page a l t = by-client page page a l (t .took page)
 
-    module _ (x : Message) (e : x ≡ slotAt (machineOf m) (suc (slot - 1))) (o : Party) (w : o ≡ receiverOf (x .kind)) where
-      pub by-nobody : (page : List ℕ) (a : Answer) → o ≡ Nobody → a ≡ coded 22 → Took (step (deliver slot page) (machineOf m)) a page m m
+    module _ (x : Message) (e : x ≡ slotAt (machineOf lay m) (suc (slot - 1))) (o : Party) (w : o ≡ receiverOf (x .kind)) where
+      pub by-nobody : (page : List ℕ) (a : Answer) → o ≡ Nobody → a ≡ coded 22 → Took lay (step (deliver slot page) (machineOf lay m)) a page m m
       unfolding refusal
       by-nobody page a q h =
-          let here : x .kind ≡ slotAt (machineOf m) slot .kind = ap (λ (y : Message). y .kind) e ∙ ap (λ (p : ℕ). slotAt (machineOf m) p .kind) from-one in
-          took-refused (deliver slot page) m 22 a (g .long) (λ z. omega arith)
-          (tested-22 (not (between 1 128 slot)) (isEmpty (slotAt (machineOf m) slot)) (isOverfull (machineOf m) (slotAt (machineOf m) slot))
-          (noSlot (machineOf m) (effectOf (deliver slot page) (machineOf m))) (ap not (sym r) ∙ n) (eq-eqb _ _ (sym here ∙ is-void m (slot - 1) x g slot-within e o w q)))
+          let here : x .kind ≡ slotAt (machineOf lay m) slot .kind = ap (λ (y : Message). y .kind) e ∙ ap (λ (p : ℕ). slotAt (machineOf lay m) p .kind) from-one in
+          took-refused lay (deliver slot page) m 22 a (g .long) (λ z. omega arith)
+          (tested-22 (not (between 1 128 slot)) (isEmpty (slotAt (machineOf lay m) slot)) (isOverfull (machineOf lay m) (slotAt (machineOf lay m) slot))
+          (noSlot (machineOf lay m) (effectOf (deliver slot page) (machineOf lay m))) (ap not (sym r) ∙ n) (eq-eqb _ _ (sym here ∙ is-void lay m (slot - 1) x g slot-within e o w q)))
           h
 
-      pub for-client : o ≡ AClient → Arrived AClient m (slot - 1) x
-      for-client q = arrived m (slot - 1) x g slot-within e o w AClient q (λ z. omega (arith, ap mostOf z))
+      pub for-client : o ≡ AClient → Arrived lay AClient m (slot - 1) x
+      for-client q = arrived lay m (slot - 1) x g slot-within e o w AClient q (λ z. omega (arith, ap (mostOf base) z))
 
-      pub for-directory : o ≡ ADirectory → Arrived ADirectory m (slot - 1) x
-      for-directory q = arrived m (slot - 1) x g slot-within e o w ADirectory q (λ z. omega (arith, ap mostOf z))
+      pub for-directory : o ≡ ADirectory → Arrived lay ADirectory m (slot - 1) x
+      for-directory q = arrived lay m (slot - 1) x g slot-within e o w ADirectory q (λ z. omega (arith, ap (mostOf base) z))
 
-      pub for-replica : o ≡ AReplica → Arrived AReplica m (slot - 1) x
-      for-replica q = arrived m (slot - 1) x g slot-within e o w AReplica q (λ z. omega (arith, ap mostOf z))
+      pub for-replica : o ≡ AReplica → Arrived lay AReplica m (slot - 1) x
+      for-replica q = arrived lay m (slot - 1) x g slot-within e o w AReplica q (λ z. omega (arith, ap (mostOf base) z))

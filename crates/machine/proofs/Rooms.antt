@@ -9,12 +9,12 @@ use borrow.Author.Tests.{le-leb, lt-leb, lt-ltb, le-ltb}
 use lib.Dec.{leb, ltb}
 use Rattle.sets.specs.Sets.{size}
 use Rattle.tables.specs.Tables.{Machine}
-use Rattle.rules.specs.declared.Post.{Post}
-use Rattle.machine.specs.Slots.{emptySlots}
+use Rattle.mail.specs.declared.Post.{Post}
+use Rattle.mail.specs.Slots.{emptySlots}
 use Rattle.machine.specs.Effects.{Change}
 use Rattle.machine.specs.Calls.{done}
 use Rattle.machine.specs.Refusals.{noSlot}
-use Rattle.machine.proofs.Places.{length-messages}
+use Rattle.mail.proofs.Messages.{length-messages}
 
 pub too-few : (e n : ℕ) → ltb e n ≡ not (leb n e)
 too-few e n = go (decLe n e)

@@ -7,8 +7,11 @@ use native.Mathlib.Omega.{arith}
 use borrow.Author.Tests.{ne-eqb}
 use lib.Dec.{T, ltb, eqb, nltb→le, eqb→eq}
 use lib.ListN.{length, drop}
+use Rattle.tables.specs.Inner.{Fits}
+use Rattle.tables.specs.Layouts.{extent}
 use Rattle.sets.specs.Plain.{if_then_else_}
 use Rattle.sets.proofs.Tests.{false-T, not-not, neither}
+use Rattle.tables.specs.declared.Layout.{Layout}
 use Rattle.tables.specs.Tables.{Machine}
 use Rattle.tables.specs.Words.{words}
 use Rattle.tables.specs.Machines.{machineOf}
@@ -37,18 +40,18 @@ module _ (c : Call) (M : Machine) where
   step-accepted e = rw e
 
 -- ---- the buffer of a step that was refused, and of one that was taken
-pub took-nothing : (m p : List ℕ) (code : ℕ) (a : Answer) → 4992 ≤ length m → a ≡ coded code → Took (refused code p (machineOf m)) a p m m
-took-nothing m p code a l h = record { answer = h; page = refl; buffer = sym (words-back m l) }
+pub took-nothing : (lay : Layout) (m p : List ℕ) (code : ℕ) (a : Answer) → Fits lay m → a ≡ coded code → Took lay (refused code p (machineOf lay m)) a p m m
+took-nothing lay m p code a l h = record { answer = h; page = refl; buffer = sym (words-back lay m (l .long)) }
 
-pub took-refused : (c : Call) (m : List ℕ) (code : ℕ) (a : Answer) → 4992 ≤ length m → (code ≡ 0 → ⊥)
-    → refusal c (machineOf m) (effectOf c (machineOf m)) ≡ code → a ≡ coded code → Took (step c (machineOf m)) a (pageIn c) m m
-took-refused c m code a l z e h =
-    rw (step-refused c (machineOf m) code z e) (took-nothing m (pageIn c) code a l h)
+pub took-refused : (lay : Layout) (c : Call) (m : List ℕ) (code : ℕ) (a : Answer) → Fits lay m → (code ≡ 0 → ⊥)
+    → refusal c (machineOf lay m) (effectOf c (machineOf lay m)) ≡ code → a ≡ coded code → Took lay (step c (machineOf lay m)) a (pageIn c) m m
+took-refused lay c m code a l z e h =
+    rw (step-refused c (machineOf lay m) code z e) (took-nothing lay m (pageIn c) code a l h)
 
-pub took-accepted : (c : Call) (m n p : List ℕ) (a : Answer) → refusal c (machineOf m) (effectOf c (machineOf m)) ≡ 0
-    → a ≡ taken c (machineOf m) .answer → p ≡ taken c (machineOf m) .page → n ≡ words (taken c (machineOf m) .machine) (drop 4992 m)
-    → Took (step c (machineOf m)) a p m n
-took-accepted c m n p a e h g k = rw (step-accepted c (machineOf m) e) (record { answer = h; page = g; buffer = k })
+pub took-accepted : (lay : Layout) (c : Call) (m n p : List ℕ) (a : Answer) → refusal c (machineOf lay m) (effectOf c (machineOf lay m)) ≡ 0
+    → a ≡ taken c (machineOf lay m) .answer → p ≡ taken c (machineOf lay m) .page → n ≡ words (taken c (machineOf lay m) .machine) (drop (extent lay) m)
+    → Took lay (step c (machineOf lay m)) a p m n
+took-accepted lay c m n p a e h g k = rw (step-accepted c (machineOf lay m) e) (record { answer = h; page = g; buffer = k })
 
 -- ---- SIZE, BAD MACHINE, and then the step; s is the state of a buffer whose call has a page of n words
 
@@ -59,39 +62,39 @@ no-code false true e = (refl, refl)
 no-code false false e = absurd (omega arith)
 
 -- long enough, and a page of 16 words
-module _ (m : List ℕ) (n : ℕ) (h : ltb (length m) 4992 || not (eqb n 16) ≡ false) where
-  right : T (not (ltb (length m) 4992)) × T (not (not (eqb n 16)))
-  right = neither (ltb (length m) 4992) (not (eqb n 16)) (false-T _ h)
+module _ (lay : Layout) (m : List ℕ) (n end : ℕ) (whole : end ≡ extent lay) (h : ltb (length m) end || not (eqb n 16) ≡ false) where
+  right : T (not (ltb (length m) end)) × T (not (not (eqb n 16)))
+  right = neither (ltb (length m) end) (not (eqb n 16)) (false-T _ h)
 
-  pub long-enough : 4992 ≤ length m
-  long-enough = nltb→le (length m) 4992 (right .0)
+  pub long-enough : lay .directories ≤ 16 → Fits lay m
+  long-enough w = record { few = w; long = rw whole at (nltb→le (length m) end (right .0)) }
 
   pub page-whole : n ≡ 16
   page-whole = eqb→eq n 16 (not-not (eqb n 16) (right .1))
 
-module _ (m : List ℕ) (n s : ℕ) (e : s ≡ stateOf m n) where
-  both : s ≡ 0 → (ltb (length m) 4992 || not (eqb n 16) ≡ false) × (good m ≡ true)
+module _ (lay : Layout) (m : List ℕ) (n s : ℕ) (e : s ≡ stateOf lay m n) where
+  both : s ≡ 0 → (ltb (length m) (extent lay) || not (eqb n 16) ≡ false) × (good lay m ≡ true)
   unfolding stateOf
-  both z = no-code (ltb (length m) 4992 || not (eqb n 16)) (good m) (sym e ∙ z)
+  both z = no-code (ltb (length m) (extent lay) || not (eqb n 16)) (good lay m) (sym e ∙ z)
 
-  pub is-ready : s ≡ 0 → Ready m
-  is-ready z = record { long = long-enough m n (both z .0); fine = both z .1 }
+  pub is-ready : lay .directories ≤ 16 → s ≡ 0 → Ready lay m
+  is-ready w z = record { long = long-enough lay m n (extent lay) refl (both z .0) w; fine = both z .1 }
 
   pub is-sixteen : s ≡ 0 → n ≡ 16
-  is-sixteen z = page-whole m n (both z .0)
+  is-sixteen z = page-whole lay m n (extent lay) refl (both z .0)
 
   module _ (c : Call) (w : wrongPage c ≡ not (eqb n 16)) (k : not (isSetUp c) ≡ true) where
-    pub call-refused : (a : Answer) (p : List ℕ) → pageIn c ≡ p → (s ≡ 0 → ⊥) → a ≡ coded s → Gives (call c m) a p m
+    pub call-refused : (a : Answer) (p : List ℕ) → pageIn c ≡ p → (s ≡ 0 → ⊥) → a ≡ coded s → Gives (call lay c m) a p m
     unfolding call stateOf
-    call-refused a p x z h = rw (w, k) (go (ltb (length m) 4992 || not (eqb n 16)) (good m) e)
+    call-refused a p x z h = rw (w, k) (go (ltb (length m) (extent lay) || not (eqb n 16)) (good lay m) e)
       where
         go : (b g : Bool) → s ≡ (if b then 16 else if not g then 17 else 0)
-            → Gives (if b then left (coded 16) (pageIn c) m else if not g then left (coded 17) (pageIn c) m else left (step c (machineOf m) .answer) (step c (machineOf m) .page) (words (step c (machineOf m) .machine) (drop 4992 m)))
+            → Gives (if b then left (coded 16) (pageIn c) m else if not g then left (coded 17) (pageIn c) m else left (step c (machineOf lay m) .answer) (step c (machineOf lay m) .page) (words (step c (machineOf lay m) .machine) (drop (extent lay) m)))
             a p m
         go true g q = record { answer = h ∙ ap coded q; page = sym x; buffer = refl }
         go false false q = record { answer = h ∙ ap coded q; page = sym x; buffer = refl }
         go false true q = absurd (z q)
 
-    pub call-taken : (a : Answer) (p l : List ℕ) → s ≡ 0 → Took (step c (machineOf m)) a p m l → Gives (call c m) a p l
+    pub call-taken : (a : Answer) (p l : List ℕ) → s ≡ 0 → Took lay (step c (machineOf lay m)) a p m l → Gives (call lay c m) a p l
     unfolding call
     call-taken a p l z t = rw (w, k, both z .0, both z .1) (record { answer = t .answer; page = t .page; buffer = t .buffer })

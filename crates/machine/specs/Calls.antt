@@ -6,8 +6,8 @@ use Rattle.tables.specs.declared.Directory.{Directory}
 use Rattle.tables.specs.declared.Party.{Party}
 use Rattle.tables.specs.declared.Party.the-variants.{Nobody, AClient, ADirectory, AReplica}
 use Rattle.tables.specs.Tables.{Page, Replica, Machine, clientAt, directoryAt, replicaAt}
-use Rattle.rules.specs.declared.Post.{Post}
-use Rattle.rules.specs.Posts.{noPost}
+use Rattle.mail.specs.declared.Post.{Post}
+use Rattle.mail.specs.Posts.{noPost}
 use Rattle.rules.specs.Answers.{coded}
 use Rattle.rules.specs.Client.{started, request}
 use Rattle.rules.specs.Replica.{tidied, gossipPost}

@@ -3,10 +3,10 @@ use Rattle.sets.specs.Plain.{ℕ, List}
 use Rattle.tables.specs.declared.Client.{Client}
 use Rattle.tables.specs.declared.Directory.{Directory}
 use Rattle.tables.specs.Tables.{Page, Replica, Machine, withClient, withDirectory, withReplica, withSlots}
-use Rattle.rules.specs.declared.Post.{Post}
+use Rattle.mail.specs.declared.Post.{Post}
 use Rattle.rules.specs.declared.Answer.{Answer}
-use Rattle.rules.specs.Posts.{messagesOf}
-use Rattle.machine.specs.Slots.{placed, freed}
+use Rattle.mail.specs.Posts.{messagesOf}
+use Rattle.mail.specs.Slots.{placed, freed}
 
 pub data Change : Type 0 where
   nothing : Change

@@ -7,6 +7,9 @@ use lib.Dec.{leb, ltb, eqb}
 use lib.ListN.{length, drop, set, getD, replicate}
 use Rattle.sets.specs.Plain.{if_then_else_}
 use Rattle.sets.specs.Sets.{size}
+use Rattle.tables.specs.declared.Layout.{Layout}
+use Rattle.tables.specs.Layouts.{extent}
+use Rattle.tables.specs.Inner.{Fits}
 use Rattle.tables.specs.declared.Conf.{Conf}
 use Rattle.tables.specs.declared.Client.{Client}
 use Rattle.tables.specs.declared.Entry.{Entry}
@@ -19,13 +22,13 @@ use Rattle.tables.specs.Machines.{machineOf, rowsOf}
 use Rattle.tables.specs.Kinds.{receiverOf, manyOf}
 use Rattle.inspect.specs.Good.{good, between, goodNumbers}
 use Rattle.rules.specs.declared.Answer.{Answer}
-use Rattle.rules.specs.declared.Post.{Post}
+use Rattle.mail.specs.declared.Post.{Post}
 use Rattle.rules.specs.Answers.{coded}
-use Rattle.rules.specs.Posts.{messagesOf}
+use Rattle.mail.specs.Posts.{messagesOf}
 use Rattle.rules.specs.declared.Outcome.{Outcome}
 use Rattle.rules.specs.Client.{clientAfter, clientPost, request}
 use Rattle.rules.specs.Inner.{Sender, AfterAble, Few}
-use Rattle.machine.specs.Slots.{placed, emptySlots}
+use Rattle.mail.specs.Slots.{placed, emptySlots}
 use Rattle.machine.specs.Effects.{Change, changed, Effect, client, applied}
 use Rattle.machine.specs.Calls.{deliver, startRead, done, startEffect}
 use Rattle.machine.specs.Steps.{Result, step, refused, waiting, partiesDown}
@@ -37,30 +40,30 @@ use Rattle.machine.specs.Refusals.{noSlot, refusal}
 use Rattle.machine.specs.declared.Counts.{Counts}
 
 -- 16, 17 or 0, where the call's page has n words (16 where it has none)
-unfoldable pub stateOf : List ℕ → ℕ → ℕ
-stateOf m n = if ltb (length m) 4992 || not (eqb n 16) then 16 else if not (good m) then 17 else 0
+unfoldable pub stateOf : Layout → List ℕ → ℕ → ℕ
+stateOf lay m n = if ltb (length m) (extent lay) || not (eqb n 16) then 16 else if not (good lay m) then 17 else 0
 
 -- a buffer on which a step is taken
-pub record Ready (m : List ℕ) : Type 0 where
-  pub long : 4992 ≤ length m
-  pub fine : good m ≡ true
+pub record Ready (lay : Layout) (m : List ℕ) : Type 0 where
+  pub long : Fits lay m
+  pub fine : good lay m ≡ true
 
 -- the step r is what answer a, page p and the buffer n show of it; the buffer was m
-pub record Took (r : Result) (a : Answer) (p m n : List ℕ) : Type 0 where
+pub record Took (lay : Layout) (r : Result) (a : Answer) (p m n : List ℕ) : Type 0 where
   pub answer : a ≡ r .answer
   pub page : p ≡ r .page
-  pub buffer : n ≡ words (r .machine) (drop 4992 m)
+  pub buffer : n ≡ words (r .machine) (drop (extent lay) m)
 
 -- ---- set-up
 
--- a machine with the numbers k alone
-unfoldable pub blank : Conf → Machine
-blank k =
+-- a machine with room for n directories and the numbers k alone
+unfoldable pub blank : ℕ → Conf → Machine
+blank n k =
     record {
       conf = k;
       spare = replicate 9 0;
       clients = replicate 8 noClient;
-      directories = replicate 5 noDirectory;
+      directories = replicate n noDirectory;
       gap = replicate 5 0;
       replicas = replicate 7 noReplica;
       slots = replicate 128 noMessage;
@@ -88,11 +91,11 @@ withReplicas M n x =
 
 -- ---- report
 
--- n rows of w words from place `at` on
-pub record RowsIn (m : List ℕ) (at w n : ℕ) : Type 0 where
+-- n rows of w words
+pub record RowsIn (l : List ℕ) (w n : ℕ) : Type 0 where
   pub some : 1 ≤ w
-  pub few : n ≤ 8
-  pub within : at + n * w ≤ length m
+  pub few : n ≤ 16
+  pub within : n * w ≤ length l
 
 abbrev pub isOne : ℕ → Bool
 isOne v = eqb v 1
@@ -101,8 +104,8 @@ abbrev pub firstWord : List ℕ → ℕ
 firstWord l = getD l 0 0
 
 -- the first word of each row
-unfoldable pub firstWords : List ℕ → ℕ → ℕ → ℕ → List ℕ
-firstWords m at w n = rowsOf firstWord n w (drop at m)
+unfoldable pub firstWords : List ℕ → ℕ → ℕ → List ℕ
+firstWords l w n = rowsOf firstWord n w l
 
 abbrev pub counts : Machine → Counts
 counts M = record { code = 0; waiting = waiting M; down = partiesDown M }
@@ -120,8 +123,8 @@ abbrev pub twoOf : ℕ → ℕ → ℕ → Bool
 twoOf n p q = between 1 n p && between 1 n q && not (eqb p q)
 
 -- a replica of the buffer, counted from 0, and a receiver
-pub record Gossips (m : List ℕ) (i to : ℕ) : Type 0 where
-  pub long : 4992 ≤ length m
+pub record Gossips (lay : Layout) (m : List ℕ) (i to : ℕ) : Type 0 where
+  pub long : Fits lay m
   pub row : i < 7
   pub receiver : Sender to
 
@@ -142,9 +145,9 @@ launchStep M k c y =
     if noSlot M e then refused 24 [] M
     else record { answer = coded 0; page = []; machine = applied e M }
 
-pub record Launches (m : List ℕ) (k : Conf) (c : ℕ) (y : Client) : Type 0 where
-  pub ready : Ready m
-  pub numbers : goodNumbers k ≡ true
+pub record Launches (lay : Layout) (m : List ℕ) (k : Conf) (c : ℕ) (y : Client) : Type 0 where
+  pub ready : Ready lay m
+  pub numbers : goodNumbers (lay .directories) k ≡ true
   pub low : 1 ≤ c
   pub high : c ≤ 8
   pub set : y .replicas < 2 ^ 16
@@ -160,40 +163,40 @@ startStep M c phase page =
 -- ---- deliver
 
 -- how many parties of a kind there may be
-abbrev pub mostOf : Party → ℕ
-mostOf Nobody = 0
-mostOf AClient = 8
-mostOf ADirectory = 5
-mostOf AReplica = 7
+abbrev pub mostOf : Layout → Party → ℕ
+mostOf lay Nobody = 0
+mostOf lay AClient = 8
+mostOf lay ADirectory = lay .directories
+mostOf lay AReplica = 7
 
 -- x waits in slot s, counted from 0, of a buffer on which a step is taken, for a party of the kind `who`
-pub record Arrived (who : Party) (m : List ℕ) (s : ℕ) (x : Message) : Type 0 where
-  pub long : 4992 ≤ length m
-  pub fine : good m ≡ true
+pub record Arrived (lay : Layout) (who : Party) (m : List ℕ) (s : ℕ) (x : Message) : Type 0 where
+  pub long : Fits lay m
+  pub fine : good lay m ≡ true
   pub slot : s < 128
-  pub here : x ≡ slotAt (machineOf m) (suc s)
+  pub here : x ≡ slotAt (machineOf lay m) (suc s)
   pub some : x .kind ≡ 0 → ⊥
   pub whose : receiverOf (x .kind) ≡ who
   pub sender : Sender (x .sender)
-  pub few : x .sender ≤ 8
+  pub few : x .sender ≤ 16
   pub set : x .set < 2 ^ 16
   pub low : 1 ≤ x .receiver
-  pub high : x .receiver ≤ mostOf who
-  pub inside : x .receiver ≤ manyOf (machineOf m .conf) who
+  pub high : x .receiver ≤ mostOf lay who
+  pub inside : x .receiver ≤ manyOf (machineOf lay m .conf) who
 
 -- the delivery of slot s, whatever the page to fill; the page stays
-pub record Delivered (M : Machine) (s : ℕ) (a : Answer) (m n : List ℕ) : Type 0 where
-  pub took : (page : Page) → Took (step (deliver s page) M) a page m n
+pub record Delivered (lay : Layout) (M : Machine) (s : ℕ) (a : Answer) (m n : List ℕ) : Type 0 where
+  pub took : (page : Page) → Took lay (step (deliver s page) M) a page m n
 
 -- the messages have room once one slot is emptied
 abbrev pub hasRoom : Machine → Post → Bool
 hasRoom M y = leb (size (y .to)) (emptySlots (M .slots) + 1)
 
 -- the answer a and the buffer n, where a change is made, slot s, counted from 0, emptied and y sent, as far as there is room
-pub record Committed (m : List ℕ) (s : ℕ) (change : Change) (y : Post) (given a : Answer) (n : List ℕ) : Type 0 where
-  pub answer : a ≡ (if hasRoom (machineOf m) y then given else coded 24)
-  pub buffer : n ≡ (if hasRoom (machineOf m) y
-      then words (withSlots (changed change (machineOf m)) (placed (messagesOf y) (set (machineOf m .slots) s noMessage))) (drop 4992 m)
+pub record Committed (lay : Layout) (m : List ℕ) (s : ℕ) (change : Change) (y : Post) (given a : Answer) (n : List ℕ) : Type 0 where
+  pub answer : a ≡ (if hasRoom (machineOf lay m) y then given else coded 24)
+  pub buffer : n ≡ (if hasRoom (machineOf lay m) y
+      then words (withSlots (changed change (machineOf lay m)) (placed (messagesOf y) (set (machineOf lay m .slots) s noMessage))) (drop (extent lay) m)
       else m)
 
 -- the replica r with other entries
@@ -201,8 +204,8 @@ abbrev pub stocked : Machine → ℕ → List Entry → Replica
 stocked M r es = record { down = replicaAt M r .down; entries = es }
 
 -- what a client's turn asks: the row w of the receiver, and the outcome o
-pub record Turned (m : List ℕ) (s : ℕ) (x : Message) (k : Conf) (w : Client) (o : Outcome) : Type 0 where
-  pub long : 4992 ≤ length m
+pub record Turned (lay : Layout) (m : List ℕ) (s : ℕ) (x : Message) (k : Conf) (w : Client) (o : Outcome) : Type 0 where
+  pub long : Fits lay m
   pub slot : s < 128
   pub low : 1 ≤ x .receiver
   pub high : x .receiver ≤ 8

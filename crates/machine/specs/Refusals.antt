@@ -5,15 +5,15 @@ use Rattle.tables.specs.declared.Party.the-variants.{AClient, AReplica}
 use Rattle.tables.specs.Tables.{Machine, clientAt, replicaAt, slotAt, isEmpty}
 use Rattle.tables.specs.Phases.{isIdle}
 use Rattle.inspect.specs.Good.{between, goodNumbers, isParty}
-use Rattle.rules.specs.Posts.{messagesOf}
+use Rattle.mail.specs.Posts.{messagesOf}
 use Rattle.rules.specs.Replica.{isFull}
-use Rattle.machine.specs.Slots.{freed, emptySlots}
+use Rattle.mail.specs.Slots.{freed, emptySlots}
 use Rattle.machine.specs.Effects.{Effect}
 use Rattle.machine.specs.Calls.{Call, setUp, startRead, startWrite, deliver, gossip, tidy, crash, report, isDown, partyOf}
 
 -- 18 BAD ARGUMENT: "a number out of range; gossip to itself"
 abbrev pub badArgument : Call → Machine → Bool
-badArgument (setUp k page) M = not (goodNumbers k)
+badArgument (setUp k page) M = not (goodNumbers (length (M .directories)) k)
 badArgument (startRead c) M = not (isParty (M .conf) AClient c)
 badArgument (startWrite c page) M = not (isParty (M .conf) AClient c)
 badArgument (deliver s page) M = not (between 1 128 s)

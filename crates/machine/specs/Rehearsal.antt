@@ -9,9 +9,10 @@ use Rattle.sets.specs.Plain.{if_then_else_}
 use Rattle.sets.specs.Tags.{against}
 use Rattle.tables.specs.Kinds.{senderOf, receiverOf}
 use Rattle.tables.specs.Tables.{Page, Machine, noPage, noClient, noDirectory, noEntry, noReplica, noMessage}
-use Rattle.tables.specs.Machines.{rowsOf, confOf, clientOf, directoryOf, entryOf, messageOf, entriesOf, replicasOf, machineOf}
+use Rattle.tables.specs.Layouts.{base}
+use Rattle.tables.specs.Machines.{clientsOf, directoriesOf, slotsOf, rowsOf, confOf, clientOf, directoryOf, entryOf, messageOf, entriesOf, replicasOf, machineOf}
 use Rattle.inspect.specs.Good.{goodNumbers}
-use Rattle.rules.specs.Posts.{messagesOf}
+use Rattle.mail.specs.Posts.{messagesOf}
 use Rattle.rules.specs.Quorums.{enoughToRead, enoughToWrite}
 use Rattle.rules.specs.Directory.{directoryAfter, directoryPost}
 use Rattle.rules.specs.Replica.{entryWith, raised, highest, secure, write, hearGossip, read, tidied, replicaAfter, replicaPost, isFull, gossipPost}
@@ -52,8 +53,8 @@ abbrev quiet : List ℕ
 quiet = 0 ∷ 0 ∷ 0 ∷ 0 ∷ 0 ∷ []
 
 -- from 4,992 zero words
-pub rehearsed : lines (machineOf (replicate 4992 0)) schedule
+pub rehearsed : lines (machineOf base (replicate 4992 0)) schedule
     ≡ quiet ∷ quiet ∷ quiet ∷ quiet ∷ quiet ∷ quiet ∷ quiet ∷ (2 ∷ 1 ∷ 1 ∷ 1 ∷ 0 ∷ [])
     ∷ quiet ∷ quiet ∷ quiet ∷ quiet ∷ quiet ∷ quiet ∷ (1 ∷ 1 ∷ 1 ∷ 1 ∷ 9 ∷ []) ∷ (21 ∷ 0 ∷ 0 ∷ 0 ∷ 0 ∷ []) ∷ []
-unfolding machineOf confOf clientOf directoryOf entryOf messageOf entriesOf replicasOf rowsOf lines schedule ones onesIn against senderOf receiverOf noPage noClient noDirectory noEntry noReplica noMessage goodNumbers messagesOf enoughToRead enoughToWrite directoryAfter directoryPost entryWith raised highest secure write hearGossip read tidied replicaAfter replicaPost isFull gossipPost awaited enoughFor isStale heard chosen turned outcome clientAfter request secures clientPost partyOf startEffect gossipEffect tidyEffect crashEffect clientEffect directoryEffect replicaEffect deliverEffect refusal newMachine effectOf step
+unfolding machineOf clientsOf directoriesOf slotsOf confOf clientOf directoryOf entryOf messageOf entriesOf replicasOf rowsOf lines schedule ones onesIn against senderOf receiverOf noPage noClient noDirectory noEntry noReplica noMessage goodNumbers messagesOf enoughToRead enoughToWrite directoryAfter directoryPost entryWith raised highest secure write hearGossip read tidied replicaAfter replicaPost isFull gossipPost awaited enoughFor isStale heard chosen turned outcome clientAfter request secures clientPost partyOf startEffect gossipEffect tidyEffect crashEffect clientEffect directoryEffect replicaEffect deliverEffect refusal newMachine effectOf step
 rehearsed = refl

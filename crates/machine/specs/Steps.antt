@@ -1,5 +1,5 @@
 -- A step: the first refusal that applies, else the call's effect. "Codes 16 to 24 change nothing."
-use Rattle.sets.specs.Plain.{not, ℕ, _+_, leb, eqb, [], _∷_, map, replicate, if_then_else_, numbers}
+use Rattle.sets.specs.Plain.{not, ℕ, _+_, leb, eqb, [], _∷_, length, map, replicate, if_then_else_, numbers}
 use Rattle.sets.specs.Tags.{first}
 use Rattle.sets.specs.Sets.{all}
 use Rattle.tables.specs.declared.Conf.{Conf}
@@ -7,7 +7,7 @@ use Rattle.tables.specs.declared.Directory.{Directory}
 use Rattle.tables.specs.Tables.{Page, noPage, Replica, Machine, noClient, noDirectory, noEntry, noReplica, noMessage, isEmpty}
 use Rattle.tables.specs.Rows.{count}
 use Rattle.rules.specs.declared.Answer.{Answer}
-use Rattle.rules.specs.Posts.{noPost}
+use Rattle.mail.specs.Posts.{noPost}
 use Rattle.rules.specs.Answers.{coded}
 use Rattle.rules.specs.Replica.{entry}
 use Rattle.machine.specs.Effects.{nothing, Effect, applied}
@@ -26,13 +26,14 @@ abbrev pub firstReplica : Conf → Page → ℕ → Replica
 firstReplica k page r =
     if leb r (k .replicas) then record { down = 0; entries = entry 2 first page ∷ replicate 11 noEntry } else noReplica
 
-unfoldable pub newMachine : Conf → Page → Machine
-newMachine k page =
+-- with room for n directories
+unfoldable pub newMachine : ℕ → Conf → Page → Machine
+newMachine n k page =
     record {
       conf = k;
       spare = replicate 9 0;
       clients = replicate 8 noClient;
-      directories = map (firstDirectory k) (numbers 1 5);
+      directories = map (firstDirectory k) (numbers 1 n);
       gap = replicate 5 0;
       replicas = map (firstReplica k page) (numbers 1 7);
       slots = replicate 128 noMessage;
@@ -71,7 +72,7 @@ abbrev pub refused : ℕ → Page → Machine → Result
 refused code page M = record { answer = coded code; page = page; machine = M }
 
 abbrev pub accepted : Call → Machine → Effect → Machine
-accepted (setUp k page) M e = newMachine k page
+accepted (setUp k page) M e = newMachine (length (M .directories)) k page
 accepted (startRead c) M e = applied e M
 accepted (startWrite c page) M e = applied e M
 accepted (deliver s page) M e = applied e M

@@ -1,8 +1,10 @@
 // Gossip, tidy and crash, on a machine that is not bad.
 ghost use mathlib.Core.Path.{_≡_};
 ghost use mathlib.Core.List.{[]};
-ghost use Prim.Native.Nat.{suc, _≤_, _<_};
-ghost use lib.ListN.{length, drop};
+ghost use Prim.Native.Nat.{suc, _<_};
+ghost use lib.ListN.{drop};
+ghost use Rattle.tables.specs.Layouts.{extent};
+ghost use Rattle.tables.specs.Inner.{Fits};
 ghost use Rattle.tables.specs.Tables.{replicaAt};
 ghost use Rattle.tables.specs.Words.{words};
 ghost use Rattle.tables.specs.Machines.{machineOf};
@@ -12,108 +14,109 @@ ghost use Rattle.machine.specs.Steps.{step};
 ghost use Rattle.machine.specs.Inner.{Ready, Took, Gossips, twoOf, withTidied};
 use crate::send;
 use inspect::fields;
+use mail::Post;
 use rules::Answer;
-use rules::Post;
 use rules::request;
+use tables::Layout;
 use tables::places;
 use tables::rows;
 
-fn crash_client(m: &mut [u32], id: u32) -> Answer
-    requires { ⌜ Ready (now m) ⌝ }
-    ensures { λ r. ⌜ Took (step (crash 1 id) (machineOf (now (m .entry)))) r [] (now (m .entry)) (now (m .exit)) ⌝ }
+fn crash_client(lay: Layout, m: &mut [u32], id: u32) -> Answer
+    requires { ⌜ Ready lay (now m) ⌝ }
+    ensures { λ r. ⌜ Took lay (step (crash 1 id) (machineOf lay (now (m .entry)))) r [] (now (m .entry)) (now (m .exit)) ⌝ }
 {
     let k = rows::conf_at(m);
     if !fields::is_between(1, k.clients, id) {
         return request::plain(18);
     }
     let i = (id - 1) as usize;
-    let mut w = places::client(m, i);
+    let mut w = places::client(lay, m, i);
     if w.down == 1 {
         return request::plain(19);
     }
     w.down = 1;
-    places::set_client(m, i, w);
+    places::set_client(lay, m, i, w);
     request::plain(0)
 }
 
-fn crash_directory(m: &mut [u32], id: u32) -> Answer
-    requires { ⌜ Ready (now m) ⌝ }
-    ensures { λ r. ⌜ Took (step (crash 2 id) (machineOf (now (m .entry)))) r [] (now (m .entry)) (now (m .exit)) ⌝ }
+fn crash_directory(lay: Layout, m: &mut [u32], id: u32) -> Answer
+    requires { ⌜ Ready lay (now m) ⌝ }
+    ensures { λ r. ⌜ Took lay (step (crash 2 id) (machineOf lay (now (m .entry)))) r [] (now (m .entry)) (now (m .exit)) ⌝ }
 {
     let k = rows::conf_at(m);
     if !fields::is_between(1, k.directories, id) {
         return request::plain(18);
     }
     let i = (id - 1) as usize;
-    let mut w = places::directory(m, i);
+    let mut w = places::directory(lay, m, i);
     if w.down == 1 {
         return request::plain(19);
     }
     w.down = 1;
-    places::set_directory(m, i, w);
+    places::set_directory(lay, m, i, w);
     request::plain(0)
 }
 
-fn crash_replica(m: &mut [u32], id: u32) -> Answer
-    requires { ⌜ Ready (now m) ⌝ }
-    ensures { λ r. ⌜ Took (step (crash 3 id) (machineOf (now (m .entry)))) r [] (now (m .entry)) (now (m .exit)) ⌝ }
+fn crash_replica(lay: Layout, m: &mut [u32], id: u32) -> Answer
+    requires { ⌜ Ready lay (now m) ⌝ }
+    ensures { λ r. ⌜ Took lay (step (crash 3 id) (machineOf lay (now (m .entry)))) r [] (now (m .entry)) (now (m .exit)) ⌝ }
 {
     let k = rows::conf_at(m);
     if !fields::is_between(1, k.replicas, id) {
         return request::plain(18);
     }
     let i = (id - 1) as usize;
-    if places::down(m, i) == 1 {
+    if places::down(lay, m, i) == 1 {
         return request::plain(19);
     }
-    places::set_down(m, i, 1);
+    places::set_down(lay, m, i, 1);
     request::plain(0)
 }
 
 // Crash of a party: 1 client, 2 directory, 3 replica.
-pub(crate) fn crash_good(m: &mut [u32], kind: u32, id: u32) -> Answer
-    requires { ⌜ Ready (now m) ⌝ }
-    ensures { λ r. ⌜ Took (step (crash kind id) (machineOf (now (m .entry)))) r [] (now (m .entry)) (now (m .exit)) ⌝ }
+pub(crate) fn crash_good(lay: Layout, m: &mut [u32], kind: u32, id: u32) -> Answer
+    requires { ⌜ Ready lay (now m) ⌝ }
+    ensures { λ r. ⌜ Took lay (step (crash kind id) (machineOf lay (now (m .entry)))) r [] (now (m .entry)) (now (m .exit)) ⌝ }
 {
     match kind {
-        1 => crash_client(m, id),
-        2 => crash_directory(m, id),
-        3 => crash_replica(m, id),
+        1 => crash_client(lay, m, id),
+        2 => crash_directory(lay, m, id),
+        3 => crash_replica(lay, m, id),
         _ => request::plain(18),
     }
 }
 
 // Tidy at replica i, counted from 0.
-fn tidy_replica(m: &mut [u32], i: usize)
-    requires { ⌜ (4992 ≤ length (now m)) × (i < 7) ⌝ }
-    ensures { λ _. ⌜ now (m .exit) ≡ words (withTidied (machineOf (now (m .entry))) (suc i)) (drop 4992 (now (m .entry))) ⌝ }
+fn tidy_replica(lay: Layout, m: &mut [u32], i: usize)
+    requires { ⌜ Fits lay (now m) × (i < 7) ⌝ }
+    ensures { λ _. ⌜ now (m .exit) ≡ words (withTidied (machineOf lay (now (m .entry))) (suc i)) (drop (extent lay) (now (m .entry))) ⌝ }
 {
-    let at = 240 + i * 240;
+    let at = places::entries_at(lay, i);
     rules::tidy::tidy_in(&mut m[at..]);
 }
 
-pub(crate) fn tidy_good(m: &mut [u32], r: u32) -> Answer
-    requires { ⌜ Ready (now m) ⌝ }
-    ensures { λ a. ⌜ Took (step (tidy r) (machineOf (now (m .entry)))) a [] (now (m .entry)) (now (m .exit)) ⌝ }
+pub(crate) fn tidy_good(lay: Layout, m: &mut [u32], r: u32) -> Answer
+    requires { ⌜ Ready lay (now m) ⌝ }
+    ensures { λ a. ⌜ Took lay (step (tidy r) (machineOf lay (now (m .entry)))) a [] (now (m .entry)) (now (m .exit)) ⌝ }
 {
     let k = rows::conf_at(m);
     if !fields::is_between(1, k.replicas, r) {
         return request::plain(18);
     }
     let i = (r - 1) as usize;
-    if places::down(m, i) == 1 {
+    if places::down(lay, m, i) == 1 {
         return request::plain(19);
     }
-    tidy_replica(m, i);
+    tidy_replica(lay, m, i);
     request::plain(0)
 }
 
 // What replica i, counted from 0, sends by gossip.
-fn gossip_post(m: &[u32], i: usize, from: u32, to: u32) -> Post
-    requires { ⌜ Gossips (now m) i to ⌝ }
-    ensures { λ r. ⌜ r ≡ gossipPost (replicaAt (machineOf (now (m .entry))) (suc i) .entries) from to ⌝ }
+fn gossip_post(lay: Layout, m: &[u32], i: usize, from: u32, to: u32) -> Post
+    requires { ⌜ Gossips lay (now m) i to ⌝ }
+    ensures { λ r. ⌜ r ≡ gossipPost (replicaAt (machineOf lay (now (m .entry))) (suc i) .entries) from to ⌝ }
 {
-    let at = 240 + i * 240;
+    let at = places::entries_at(lay, i);
     rules::replica::gossip(&m[at..], from, to)
 }
 
@@ -124,22 +127,22 @@ fn two_of(n: u32, from: u32, to: u32) -> bool
     fields::is_between(1, n, from) & fields::is_between(1, n, to) & (from != to)
 }
 
-pub(crate) fn gossip_good(m: &mut [u32], from: u32, to: u32) -> Answer
-    requires { ⌜ Ready (now m) ⌝ }
-    ensures { λ r. ⌜ Took (step (gossip from to) (machineOf (now (m .entry)))) r [] (now (m .entry)) (now (m .exit)) ⌝ }
+pub(crate) fn gossip_good(lay: Layout, m: &mut [u32], from: u32, to: u32) -> Answer
+    requires { ⌜ Ready lay (now m) ⌝ }
+    ensures { λ r. ⌜ Took lay (step (gossip from to) (machineOf lay (now (m .entry)))) r [] (now (m .entry)) (now (m .exit)) ⌝ }
 {
     let k = rows::conf_at(m);
     if !two_of(k.replicas, from, to) {
         return request::plain(18);
     }
     let i = (from - 1) as usize;
-    if places::down(m, i) == 1 {
+    if places::down(lay, m, i) == 1 {
         return request::plain(19);
     }
-    let p = gossip_post(m, i, from, to);
-    if !send::room(m, 0, p.to) {
+    let p = gossip_post(lay, m, i, from, to);
+    if !send::room(lay, m, 0, p.to) {
         return request::plain(24);
     }
-    send::send(m, p);
+    send::send(lay, m, p);
     request::plain(0)
 }

@@ -1,67 +1,70 @@
-// Messages enter the slots.
+// The machine's slots, lent to `mail`. Slots count from 0 here.
 ghost use mathlib.Core.Path.{_≡_};
 ghost use Prim.Native.Nat.{suc, _+_, _^_, _≤_, _<_};
 ghost use lib.Dec.{leb};
-ghost use lib.ListN.{length, drop};
+ghost use lib.ListN.{drop, set};
 ghost use Rattle.sets.specs.Sets.{size};
-ghost use Rattle.tables.specs.Rows.{putFirst};
-ghost use Rattle.tables.specs.Tables.{withSlots, withSlot, noMessage, isEmpty};
+ghost use Rattle.tables.specs.Layouts.{extent};
+ghost use Rattle.tables.specs.Inner.{Fits};
+ghost use Rattle.tables.specs.Tables.{slotAt, withSlots, withSlot, noMessage};
 ghost use Rattle.tables.specs.Words.{words};
 ghost use Rattle.tables.specs.Machines.{machineOf};
-ghost use Rattle.rules.specs.Posts.{messagesOf};
-ghost use Rattle.machine.specs.Slots.{placed, emptySlots};
-use rules::Post;
+ghost use Rattle.mail.specs.Posts.{messagesOf};
+ghost use Rattle.mail.specs.Slots.{placed, emptySlots};
+use mail::Post;
+use mail::slots;
+use tables::Layout;
 use tables::Message;
 use tables::places;
-use tables::search;
 
-// Whether the empty slots, and `more` besides, are enough for a message to each in the set.
-pub(crate) fn room(m: &[u32], more: usize, to: u32) -> bool
-    requires { ⌜ (4992 ≤ length (now m)) × (more ≤ 1) ⌝ }
-    ensures { λ r. ⌜ r ≡ leb (size to) (emptySlots (machineOf (now (m .entry)) .slots) + more) ⌝ }
+pub(crate) fn slot(lay: Layout, m: &[u32], s: usize) -> Message
+    requires { ⌜ Fits lay (now m) × (s < 128) ⌝ }
+    ensures { λ r. ⌜ r ≡ slotAt (machineOf lay (now (m .entry))) (suc s) ⌝ }
 {
-    let n = sets::size_of(to) as usize;
-    if n <= more {
-        return true;
-    }
-    n <= search::empty_slots(m) + more
+    let at = places::slots_at(lay);
+    slots::slot(&m[at..], s)
 }
 
-// One message enters the lowest empty slot.
-pub(crate) fn enter(m: &mut [u32], x: Message)
-    requires { ⌜ 4992 ≤ length (now m) ⌝ }
-    ensures { λ _. ⌜ now (m .exit) ≡ words (withSlots (machineOf (now (m .entry))) (putFirst isEmpty x (machineOf (now (m .entry)) .slots))) (drop 4992 (now (m .entry))) ⌝ }
+// How many slots are empty.
+pub(crate) fn empty_slots(lay: Layout, m: &[u32]) -> usize
+    requires { ⌜ Fits lay (now m) ⌝ }
+    ensures { λ r. ⌜ r ≡ emptySlots (machineOf lay (now (m .entry)) .slots) ⌝ }
 {
-    let s = search::lowest_empty(m, 0);
-    if s < 128 {
-        places::set_slot(m, s, x);
-    }
+    let at = places::slots_at(lay);
+    slots::empty_slots(&m[at..])
+}
+
+// Whether the empty slots, and `more` besides, are enough for a message to each in the set.
+pub(crate) fn room(lay: Layout, m: &[u32], more: usize, to: u32) -> bool
+    requires { ⌜ Fits lay (now m) × (more ≤ 1) ⌝ }
+    ensures { λ r. ⌜ r ≡ leb (size to) (emptySlots (machineOf lay (now (m .entry)) .slots) + more) ⌝ }
+{
+    let at = places::slots_at(lay);
+    slots::room(&m[at..], more, to)
 }
 
 // The message to each in the set, in order of receiver.
-pub(crate) fn send(m: &mut [u32], y: Post)
-    requires { ⌜ (4992 ≤ length (now m)) × (y .to < 2 ^ 16) ⌝ }
-    ensures { λ _. ⌜ now (m .exit) ≡ words (withSlots (machineOf (now (m .entry))) (placed (messagesOf y) (machineOf (now (m .entry)) .slots))) (drop 4992 (now (m .entry))) ⌝ }
+pub(crate) fn send(lay: Layout, m: &mut [u32], y: Post)
+    requires { ⌜ Fits lay (now m) × (y .to < 2 ^ 16) ⌝ }
+    ensures { λ _. ⌜ now (m .exit) ≡ words (withSlots (machineOf lay (now (m .entry))) (placed (messagesOf y) (machineOf lay (now (m .entry)) .slots))) (drop (extent lay) (now (m .entry))) ⌝ }
 {
-    let mut rest = y.to;
-    let mut p: u32 = 1;
-    while rest != 0 {
-        if rest % 2 == 1 {
-            let mut x = y.message;
-            x.receiver = p;
-            enter(m, x);
-        }
-        rest = rest / 2;
-        p += 1;
-    }
+    let at = places::slots_at(lay);
+    slots::send(&mut m[at..], y);
 }
 
-// Slot s, counted from 0, is emptied.
-pub(crate) fn empty_slot(m: &mut [u32], s: usize)
-    requires { ⌜ (4992 ≤ length (now m)) × (s < 128) ⌝ }
-    ensures { λ _. ⌜ now (m .exit) ≡ words (withSlot (machineOf (now (m .entry))) (suc s) noMessage) (drop 4992 (now (m .entry))) ⌝ }
+pub(crate) fn empty_slot(lay: Layout, m: &mut [u32], s: usize)
+    requires { ⌜ Fits lay (now m) × (s < 128) ⌝ }
+    ensures { λ _. ⌜ now (m .exit) ≡ words (withSlot (machineOf lay (now (m .entry))) (suc s) noMessage) (drop (extent lay) (now (m .entry))) ⌝ }
 {
-    let none = rules::posts::nothing();
-    let x = none.message;
-    places::set_slot(m, s, x);
+    let at = places::slots_at(lay);
+    slots::empty_slot(&mut m[at..], s);
+}
+
+// Slot s is emptied, and then the messages enter.
+pub(crate) fn replace(lay: Layout, m: &mut [u32], s: usize, y: Post)
+    requires { ⌜ Fits lay (now m) × (s < 128) × (y .to < 2 ^ 16) ⌝ }
+    ensures { λ _. ⌜ now (m .exit) ≡ words (withSlots (machineOf lay (now (m .entry))) (placed (messagesOf y) (set (machineOf lay (now (m .entry)) .slots) s noMessage))) (drop (extent lay) (now (m .entry))) ⌝ }
+{
+    let at = places::slots_at(lay);
+    slots::replace(&mut m[at..], s, y);
 }

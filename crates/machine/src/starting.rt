@@ -9,6 +9,7 @@ use rules::Answer;
 use rules::request;
 use tables::Client;
 use tables::Conf;
+use tables::Layout;
 use tables::places;
 use tables::rows;
 
@@ -29,33 +30,33 @@ fn state_of(k: Conf, w: Client) -> u32
 }
 
 // The row y of client c, and the request of its phase, where there is room.
-fn launch(m: &mut [u32], k: Conf, c: u32, y: Client) -> Answer
-    requires { ⌜ Launches (now m) k c y ⌝ }
-    ensures { λ r. ⌜ Took (launchStep (machineOf (now (m .entry))) k c y) r [] (now (m .entry)) (now (m .exit)) ⌝ }
+fn launch(lay: Layout, m: &mut [u32], k: Conf, c: u32, y: Client) -> Answer
+    requires { ⌜ Launches lay (now m) k c y ⌝ }
+    ensures { λ r. ⌜ Took lay (launchStep (machineOf lay (now (m .entry))) k c y) r [] (now (m .entry)) (now (m .exit)) ⌝ }
 {
     let p = request::request_of(k, c, y);
-    if !send::room(m, 0, p.to) {
+    if !send::room(lay, m, 0, p.to) {
         return request::plain(24);
     }
-    places::set_client(m, (c - 1) as usize, y);
-    send::send(m, p);
+    places::set_client(lay, m, (c - 1) as usize, y);
+    send::send(lay, m, p);
     request::plain(0)
 }
 
 // A start in phase 1 or 4, on a machine that is not bad.
-pub(crate) fn start(m: &mut [u32], c: u32, phase: u32, page: [u32; 16]) -> Answer
-    requires { ⌜ Ready (now m) ⌝ }
-    ensures { λ r. ⌜ Took (startStep (machineOf (now (m .entry))) c phase page) r [] (now (m .entry)) (now (m .exit)) ⌝ }
+pub(crate) fn start(lay: Layout, m: &mut [u32], c: u32, phase: u32, page: [u32; 16]) -> Answer
+    requires { ⌜ Ready lay (now m) ⌝ }
+    ensures { λ r. ⌜ Took lay (startStep (machineOf lay (now (m .entry))) c phase page) r [] (now (m .entry)) (now (m .exit)) ⌝ }
 {
     let k = rows::conf_at(m);
     if !fields::is_between(1, k.clients, c) {
         return request::plain(18);
     }
-    let w = places::client(m, (c - 1) as usize);
+    let w = places::client(lay, m, (c - 1) as usize);
     let code = state_of(k, w);
     if code != 0 {
         return request::plain(code);
     }
     let y = request::start(w, phase, page);
-    launch(m, k, c, y)
+    launch(lay, m, k, c, y)
 }

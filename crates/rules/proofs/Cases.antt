@@ -17,10 +17,10 @@ use Rattle.tables.specs.declared.Directory.{Directory}
 use Rattle.tables.specs.declared.Message.{Message}
 use Rattle.tables.specs.Tables.{noPage}
 use Rattle.rules.specs.declared.Answer.{Answer}
-use Rattle.rules.specs.declared.Post.{Post}
+use Rattle.mail.specs.declared.Post.{Post}
 use Rattle.rules.specs.declared.Outcome.{Outcome}
 use Rattle.rules.specs.declared.Outcome.the-variants.{Waiting, Next, Spent, Stale}
-use Rattle.rules.specs.Posts.{message, post, noPost}
+use Rattle.mail.specs.Posts.{message, post, noPost}
 use Rattle.rules.specs.Quorums.{enoughToRead, enoughToWrite}
 use Rattle.rules.specs.Directory.{holding, told, noticed, directoryAfter, reply, directoryPost}
 use Rattle.rules.specs.Client.{awaited, enoughFor, isStale, gathered, raised, hearing, heard, turned, outcome, moved, clientAfter, request, clientPost}

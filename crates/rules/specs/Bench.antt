@@ -11,10 +11,10 @@ use Rattle.tables.specs.declared.Directory.{Directory}
 use Rattle.tables.specs.declared.Entry.{Entry}
 use Rattle.tables.specs.declared.Message.{Message}
 use Rattle.tables.specs.Tables.{noPage, noEntry}
-use Rattle.rules.specs.declared.Post.{Post}
+use Rattle.mail.specs.declared.Post.{Post}
 use Rattle.rules.specs.declared.Outcome.{Outcome}
 use Rattle.rules.specs.declared.Outcome.the-variants.{Next, Spent}
-use Rattle.rules.specs.Posts.{message, toReceiver, noPost}
+use Rattle.mail.specs.Posts.{message, toReceiver, noPost}
 use Rattle.rules.specs.Quorums.{enoughToRead}
 use Rattle.rules.specs.Directory.{directoryAfter, reply, directoryPost}
 use Rattle.rules.specs.Replica.{entry, entryWith, raised, highest, read, tidied}

@@ -9,10 +9,10 @@ use Rattle.tables.specs.declared.Conf.{Conf}
 use Rattle.tables.specs.declared.Client.{Client}
 use Rattle.tables.specs.declared.Message.{Message}
 use Rattle.tables.specs.Tables.{Page, noPage}
-use Rattle.rules.specs.declared.Post.{Post}
+use Rattle.mail.specs.declared.Post.{Post}
 use Rattle.rules.specs.declared.Outcome.{Outcome}
 use Rattle.rules.specs.declared.Outcome.the-variants.{Waiting, Next, ReadEnded, WriteEnded, Spent, Stale}
-use Rattle.rules.specs.Posts.{message, post, noPost}
+use Rattle.mail.specs.Posts.{message, post, noPost}
 use Rattle.rules.specs.Quorums.{enoughToRead, enoughToWrite}
 
 -- ---- the phases

@@ -8,8 +8,8 @@ use Rattle.sets.specs.Sets.{size, join, only, with}
 use Rattle.tables.specs.declared.Directory.{Directory}
 use Rattle.tables.specs.declared.Message.{Message}
 use Rattle.tables.specs.Tables.{noPage}
-use Rattle.rules.specs.declared.Post.{Post}
-use Rattle.rules.specs.Posts.{message, post, noPost}
+use Rattle.mail.specs.declared.Post.{Post}
+use Rattle.mail.specs.Posts.{message, post, noPost}
 
 abbrev pub holding : Directory → Tag → ℕ → Directory
 holding d t s = record { down = d .down; tag = t; set = s }

@@ -7,8 +7,8 @@ use Rattle.tables.specs.declared.Entry.{Entry}
 use Rattle.tables.specs.declared.Message.{Message}
 use Rattle.tables.specs.Rows.{some?, putFirst}
 use Rattle.tables.specs.Tables.{Page, noPage, noEntry, isFree, isSecured, hasTag}
-use Rattle.rules.specs.declared.Post.{Post}
-use Rattle.rules.specs.Posts.{message, post, noPost}
+use Rattle.mail.specs.declared.Post.{Post}
+use Rattle.mail.specs.Posts.{message, post, noPost}
 
 abbrev pub entry : ℕ → Tag → Page → Entry
 entry state t page = record { state = state; tag = t; spare = 0; page = page }

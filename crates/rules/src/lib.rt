@@ -1,19 +1,11 @@
 // The rules of directory, replica and client, document 01, "Steps".
 use sets::Tag;
-use tables::Message;
 
-pub mod posts; // posts.rt: messages that a step sends
 pub mod directory; // directory.rt: kinds 1 to 4 and 14
 pub mod replica; // replica.rt: kinds 9 to 11 and 15, gossip
 pub mod tidy; // tidy.rt
 pub mod client; // client.rt: what a reply leads to
 pub mod request; // request.rt: the client's row afterwards, and what it sends
-
-// One message to a set of receivers; its receiver is 0 until it is sent.
-pub struct Post {
-    pub message: Message,
-    pub to: u32,
-}
 
 // What a reply leads to at a client.
 pub enum Outcome {

@@ -8,8 +8,8 @@ ghost use Rattle.tables.specs.Machines.{entriesOf};
 ghost use Rattle.tables.specs.Inner.{withEntries};
 ghost use Rattle.rules.specs.Replica.{highest, raised, secure, write, hearGossip, read, replicaAfter, replicaPost, isFull, gossipPost};
 ghost use Rattle.rules.specs.Inner.{Sender, ReplicaAble};
-use crate::Post;
-use crate::posts;
+use mail::Post;
+use mail::posts;
 use sets::Order;
 use sets::Tag;
 use tables::Entry;
@@ -47,6 +47,17 @@ pub fn highest_of(l: &[u32]) -> Tag
     t
 }
 
+pub fn no_entry() -> Entry
+    ensures { λ r. ⌜ r ≡ noEntry ⌝ }
+{
+    Entry {
+        state: 0,
+        tag: posts::no_tag(),
+        spare: 0,
+        page: posts::no_page(),
+    }
+}
+
 // Entry j, or a free one where there is none.
 fn entry_in(l: &[u32], j: usize) -> Entry
     requires { ⌜ 240 ≤ length (now l) ⌝ }
@@ -56,7 +67,7 @@ fn entry_in(l: &[u32], j: usize) -> Entry
         let at = j * 20;
         return rows::entry_at(&l[at..]);
     }
-    posts::no_entry()
+    no_entry()
 }
 
 // Kind 9: the entry of the tag, or else the highest secured one.

@@ -6,9 +6,9 @@ ghost use Rattle.rules.specs.Client.{idle, moved, started, clientAfter, 
 ghost use Rattle.rules.specs.Inner.{AfterAble, Few};
 use crate::Answer;
 use crate::Outcome;
-use crate::Post;
 use crate::client;
-use crate::posts;
+use mail::Post;
+use mail::posts;
 use sets::Tag;
 use tables::Client;
 use tables::Conf;

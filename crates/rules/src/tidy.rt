@@ -7,7 +7,6 @@ ghost use Rattle.tables.specs.Machines.{entryOf, entriesOf};
 ghost use Rattle.tables.specs.Inner.{withEntries};
 ghost use Rattle.rules.specs.Replica.{tidied};
 ghost use Rattle.rules.specs.Inner.{mark, freeMarked};
-use crate::posts;
 use crate::replica;
 use sets::Order;
 use sets::Tag;
@@ -49,7 +48,7 @@ fn free_marked(l: &mut [u32], marks: [u32; 12])
     let mut j: usize = 0;
     while j < 12 {
         if marks[j] == 1 {
-            replica::put_in(l, j, posts::no_entry());
+            replica::put_in(l, j, replica::no_entry());
         }
         j += 1;
     }

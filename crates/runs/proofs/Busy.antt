@@ -26,7 +26,7 @@ use Rattle.tables.proofs.Whole.{Paged}
 use Rattle.inspect.specs.Good.{between, zeros, goodTag, goodSet, isParty, clientRow}
 use Rattle.inspect.proofs.Facts.{TagFacts, ClientFacts, MessageFacts}
 use Rattle.inspect.proofs.Made.{client-made}
-use Rattle.rules.specs.declared.Post.{Post}
+use Rattle.mail.specs.declared.Post.{Post}
 use Rattle.rules.specs.Client.{awaited, hearing, gathered, raised, heard, idle, moved, started, request, secures}
 use Rattle.runs.proofs.Sound.{Sends}
 use Rattle.runs.proofs.Sent.{is-between, in-use, good-tag, sends-set, sends-all, sends-none}

@@ -17,9 +17,9 @@ use Rattle.tables.specs.Tables.{noPage, isEmpty}
 use Rattle.tables.proofs.Whole.{Paged}
 use Rattle.inspect.specs.Good.{isParty}
 use Rattle.inspect.proofs.Facts.{TagFacts, ClientFacts, MessageFacts}
-use Rattle.rules.specs.declared.Post.{Post}
+use Rattle.mail.specs.declared.Post.{Post}
 use Rattle.rules.specs.declared.Outcome.{Outcome}
-use Rattle.rules.specs.Posts.{noPost}
+use Rattle.mail.specs.Posts.{noPost}
 use Rattle.rules.specs.Client.{awaited, enoughFor, heard, idle, moved, outcome, clientAfter, request, clientPost}
 use Rattle.rules.proofs.Views.{Timely, Completes, View, v-stale, v-waits, v-1, v-2, v-3, v-4, v-spent, v-5, v-6, view}
 use Rattle.runs.proofs.Sound.{Sends}

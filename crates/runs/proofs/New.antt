@@ -2,12 +2,12 @@
 use mathlib.Core.Bool.{Bool, true, false}
 use mathlib.Core.List.{map}
 use mathlib.Core.Logic.{⊎-elim}
-use mathlib.Core.Path.{_≡_, refl}
+use mathlib.Core.Path.{_≡_, refl, ap, _∙_}
 use Prim.Native.Nat.{ℕ, zero, suc}
 use native.Mathlib.Omega.{arith}
 use borrow.Author.Tests.{lt-ltb, le-leb}
 use lib.Dec.{leb}
-use lib.ListN.{replicate, length-replicate}
+use lib.ListN.{length, replicate, length-replicate, length-map}
 use Rattle.sets.specs.Plain.{numbers}
 use Rattle.sets.proofs.Laws.{all-lt}
 use Rattle.sets.proofs.Tests.{either, if-ind}
@@ -19,7 +19,7 @@ use Rattle.tables.proofs.All.{cons, all-replicate}
 use Rattle.tables.proofs.Whole.{Paged, Stocked, blank-client, blank-message, blank-entry, blank-replica}
 use Rattle.inspect.specs.Good.{zeros, eachRow, goodNumbers, goodClient, goodDirectory, goodEntry, tagsOnce, goodReplica, clientRow, directoryRow, replicaRow, slotRow, goodMachine}
 use Rattle.machine.specs.Steps.{firstDirectory, firstReplica, newMachine}
-use Rattle.machine.proofs.Places.{all-from}
+use Rattle.mail.proofs.Messages.{all-from}
 use Rattle.runs.proofs.Sound.{Sound}
 
 -- rows made from their own numbers
@@ -30,6 +30,15 @@ each-made test f h k (suc n) = rw (h k, each-made test f h (suc k) n)
 each-same : {A : Type 0} (test : ℕ → A → Bool) (a : A) → ((n : ℕ) → test n a ≡ true) → (k n : ℕ) → eachRow test k (replicate n a) ≡ true
 each-same test a h k zero = refl
 each-same test a h k (suc n) = rw (h k, each-same test a h (suc k) n)
+
+length-numbers : (k n : ℕ) → length (numbers k n) ≡ n
+length-numbers k zero = refl
+length-numbers k (suc n) = ap suc (length-numbers (suc k) n)
+
+-- room for n directories
+pub new-room : (n : ℕ) (k : Conf) (page : Page) → length (newMachine n k page .directories) ≡ n
+unfolding newMachine
+new-room n k page = length-map (numbers 1 n) (firstDirectory k) ∙ length-numbers 1 n
 
 zero-least : (n : ℕ) → leb 0 n ≡ true
 zero-least n = le-leb 0 n (omega arith)
@@ -62,15 +71,16 @@ module _ (k : Conf) where
     stocked-new r =
         if-ind Stocked (leb r (k .replicas)) (λ _. record { many = refl; pages = cons p (all-replicate 11 noEntry blank-entry) }) (λ _. blank-replica)
 
-    pub new-sound : goodNumbers k ≡ true → Sound (newMachine k page)
+    pub new-sound : (n : ℕ) → goodNumbers n k ≡ true → Sound (newMachine n k page)
     unfolding newMachine goodMachine zeros
-    new-sound g =
+    new-sound n g =
         record {
           good =
               rw (
+                new-room n k page,
                 g,
                 each-same (clientRow k) noClient client-new 1 8,
-                each-made (directoryRow k) (firstDirectory k) directory-new 1 5,
+                each-made (directoryRow k) (firstDirectory k) directory-new 1 n,
                 each-made (replicaRow k) (firstReplica k page) replica-new 1 7,
                 each-same (slotRow k) noMessage slot-new 1 128,
               );

@@ -15,11 +15,12 @@ use Rattle.tables.specs.declared.Party.the-variants.{Nobody, AClient, ADirector
 use Rattle.tables.specs.Kinds.{receiverOf, manyOf}
 use Rattle.tables.specs.Phases.{roundsLeft, usesPage}
 use Rattle.tables.specs.Tables.{Page, Machine, noPage, clientAt, directoryAt, replicaAt, slotAt, isEmpty}
+use Rattle.tables.proofs.All.{length-withRow}
 use Rattle.tables.proofs.Whole.{Paged, client-paged, slot-paged}
 use Rattle.inspect.specs.Good.{zeros, goodNumbers, isParty, goodClient}
 use Rattle.inspect.proofs.Facts.{MessageFacts, client-facts, replica-facts}
-use Rattle.rules.specs.Posts.{noPost}
-use Rattle.machine.specs.Effects.{nothing}
+use Rattle.mail.specs.Posts.{noPost}
+use Rattle.machine.specs.Effects.{Change, nothing, client, directory, replica, Effect, changed}
 use Rattle.machine.specs.Calls.{Call, setUp, startRead, startWrite, deliver, gossip, tidy, crash, report, done, isDown, partyOf, downClient, downed, startEffect, gossipEffect, tidyEffect, crashEffect}
 use Rattle.machine.specs.Deliver.{received, clientEffect, directoryEffect, replicaEffect, deliverEffect}
 use Rattle.machine.specs.Steps.{Result, newMachine, effectOf, accepted, step}
@@ -31,7 +32,7 @@ use Rattle.runs.proofs.Directories.{directory-fits, directory-after, di
 use Rattle.runs.proofs.Replicas.{replica-fits, stores-tidied, gossip-sends, stores-after, replica-sends}
 use Rattle.runs.proofs.Busy.{client-fits, busy-facts, started-busy, request-sends}
 use Rattle.runs.proofs.Clients.{client-answers}
-use Rattle.runs.proofs.New.{new-sound}
+use Rattle.runs.proofs.New.{new-room, new-sound}
 use Rattle.runs.proofs.Rows.{client-of, directory-of, replica-of, stores-of, message-of}
 
 -- a number that is not a bad argument names a party
@@ -143,7 +144,8 @@ module _ {M : Machine} (z : Sound M) where
 pub accepted-sound : (c : Call) (M : Machine) → (T (not (isSetUp c)) → Sound M) → T (not (wrongPage c)) → codeOf c M ≡ 0 → Sound (accepted c M (effectOf c M))
 unfolding effectOf noPage zeros
 accepted-sound (setUp k page) M z w e =
-    new-sound k page (paged page w) (T-true (goodNumbers k) (not-not (goodNumbers k) (allowed (setUp k page) M e .argument)))
+    let n = length (M .directories) in
+    new-sound k page (paged page w) n (T-true (goodNumbers n k) (not-not (goodNumbers n k) (allowed (setUp k page) M e .argument)))
 accepted-sound (startRead c) M z w e =
     let a = allowed (startRead c) M e in
     applied-sound (z tt) (start-keeps (z tt) c 1 noPage (omega arith) (omega arith) (omega arith) (a .argument) (a .unworn) (λ _. refl) refl)
@@ -173,12 +175,36 @@ step-sound c M z w = go (step-way c M)
     go (refuses _) = z
     go (accepts e) = accepted-sound c M (λ _. z) w e
 
--- a machine that calls lead to from an accepted set-up
+-- and as large as it was
+changed-room : (x : Change) (M : Machine) → length (changed x M .directories) ≡ length (M .directories)
+changed-room nothing M = refl
+changed-room (client c w) M = refl
+changed-room (directory d w) M = length-withRow (M .directories) d w
+changed-room (replica r w) M = refl
+
+accepted-room : (c : Call) (M : Machine) (e : Effect) → length (accepted c M e .directories) ≡ length (M .directories)
+accepted-room (setUp k page) M e = new-room (length (M .directories)) k page
+accepted-room (startRead c) M e = changed-room (e .change) M
+accepted-room (startWrite c page) M e = changed-room (e .change) M
+accepted-room (deliver s page) M e = changed-room (e .change) M
+accepted-room (gossip from to) M e = changed-room (e .change) M
+accepted-room (tidy r) M e = changed-room (e .change) M
+accepted-room (crash kind id) M e = changed-room (e .change) M
+accepted-room report M e = changed-room (e .change) M
+
+pub step-room : (c : Call) (M : Machine) → length (step c M .machine .directories) ≡ length (M .directories)
+step-room c M = go (step-way c M)
+  where
+    go : {r : Result} → StepWay c M r → length (r .machine .directories) ≡ length (M .directories)
+    go (refuses _) = refl
+    go (accepts e) = accepted-room c M (effectOf c M)
+
+-- a machine that calls lead to from an accepted set-up, with room for n directories
 pub data Reached : Machine → Type 0 where
-  set-up : (k : Conf) (page : Page) → goodNumbers k ≡ true → Paged page → Reached (newMachine k page)
+  set-up : (n : ℕ) (k : Conf) (page : Page) → goodNumbers n k ≡ true → Paged page → Reached (newMachine n k page)
   call-on : {M : Machine} (c : Call) → T (not (wrongPage c)) → Reached M → Reached (step c M .machine)
 
 -- it is never bad
 pub reached-sound : {M : Machine} → Reached M → Sound M
-reached-sound (set-up k page g p) = new-sound k page p g
+reached-sound (set-up n k page g p) = new-sound k page p n g
 reached-sound (call-on {M} c w r) = step-sound c M (reached-sound r) w

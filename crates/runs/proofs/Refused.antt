@@ -7,11 +7,13 @@ use native.Mathlib.Omega.{arith}
 use lib.Dec.{T}
 use lib.ListN.{length, drop}
 use Rattle.sets.proofs.Tests.{T-false, if-ind}
+use Rattle.tables.specs.declared.Layout.{Layout}
 use Rattle.tables.specs.declared.Message.{Message}
 use Rattle.tables.specs.declared.Party.{Party}
 use Rattle.tables.specs.declared.Party.the-variants.{Nobody, AClient, ADirectory, AReplica}
 use Rattle.tables.specs.Kinds.{receiverOf}
 use Rattle.tables.specs.Tables.{Page, Machine, clientAt, slotAt}
+use Rattle.tables.specs.Layouts.{extent}
 use Rattle.tables.specs.Words.{words}
 use Rattle.tables.specs.Machines.{machineOf}
 use Rattle.tables.proofs.Round.{words-back}
@@ -65,23 +67,23 @@ pub record Untouched (c : Call) (m : List ℕ) (o : Outcomes) : Type 0 where
   pub buffer : o .buffer ≡ m
 
 -- every call answers 0 to 5, or is refused
-pub call-refused : (c : Call) (m : List ℕ) → 6 ≤ call c m .answer .code → Untouched c m (call c m)
-call-refused c m = go (call-way c m)
+pub call-refused : (lay : Layout) (c : Call) (m : List ℕ) → 6 ≤ call lay c m .answer .code → Untouched c m (call lay c m)
+call-refused lay c m = go (call-way lay c m)
   where
-    stepped : 4992 ≤ length m → {r : Result} → StepWay c (machineOf m) r → 6 ≤ r .answer .code
-        → Untouched c m (left (r .answer) (r .page) (words (r .machine) (drop 4992 m)))
-    stepped h (refuses k) l = record { low = omega arith; high = k .high; page = refl; buffer = words-back m h }
-    stepped h (accepts _) l = absurd (omega (arith, effect-code c (machineOf m)))
+    stepped : extent lay ≤ length m → {r : Result} → StepWay c (machineOf lay m) r → 6 ≤ r .answer .code
+        → Untouched c m (left (r .answer) (r .page) (words (r .machine) (drop (extent lay) m)))
+    stepped h (refuses k) l = record { low = omega arith; high = k .high; page = refl; buffer = words-back lay m h }
+    stepped h (accepts _) l = absurd (omega (arith, effect-code c (machineOf lay m)))
 
-    go : {o : Outcomes} → CallWay c m o → 6 ≤ o .answer .code → Untouched c m o
+    go : {o : Outcomes} → CallWay lay c m o → 6 ≤ o .answer .code → Untouched c m o
     go (sized _) l = record { low = omega arith; high = omega arith; page = refl; buffer = refl }
     go (bad _ _) l = record { low = omega arith; high = omega arith; page = refl; buffer = refl }
-    go (steps n _) l = stepped (is-long c m n) (step-way c (machineOf m)) l
+    go (steps n _) l = stepped (is-long lay c m n) (step-way c (machineOf lay m)) l
 
 -- a call that no line of the table refuses
-pub call-accepted : (c : Call) (m : List ℕ) → T (not (wrongSize c m)) → T (not (badMachine c m)) → codeOf c (machineOf m) ≡ 0 → call c m .answer .code ≤ 5
+pub call-accepted : (lay : Layout) (c : Call) (m : List ℕ) → T (not (wrongSize lay c m)) → T (not (badMachine lay c m)) → codeOf c (machineOf lay m) ≡ 0 → call lay c m .answer .code ≤ 5
 unfolding call
-call-accepted c m n b z = rw (T-false (wrongSize c m) n, T-false (badMachine c m) b) (step-accepts c (machineOf m) z)
+call-accepted lay c m n b z = rw (T-false (wrongSize lay c m) n, T-false (badMachine lay c m) b) (step-accepts c (machineOf lay m) z)
 
 -- ---- the page to fill is written by code 1 only
 
@@ -113,14 +115,14 @@ effect-page (tidy r) M n = refl
 effect-page (crash kind id) M n = refl
 effect-page report M n = refl
 
-pub call-page : (c : Call) (m : List ℕ) → (call c m .answer .code ≡ 1 → ⊥) → call c m .page ≡ pageIn c
-call-page c m = go (call-way c m)
+pub call-page : (lay : Layout) (c : Call) (m : List ℕ) → (call lay c m .answer .code ≡ 1 → ⊥) → call lay c m .page ≡ pageIn c
+call-page lay c m = go (call-way lay c m)
   where
-    stepped : {r : Result} → StepWay c (machineOf m) r → (r .answer .code ≡ 1 → ⊥) → r .page ≡ pageIn c
+    stepped : {r : Result} → StepWay c (machineOf lay m) r → (r .answer .code ≡ 1 → ⊥) → r .page ≡ pageIn c
     stepped (refuses _) n = refl
-    stepped (accepts _) n = effect-page c (machineOf m) n
+    stepped (accepts _) n = effect-page c (machineOf lay m) n
 
-    go : {o : Outcomes} → CallWay c m o → (o .answer .code ≡ 1 → ⊥) → o .page ≡ pageIn c
+    go : {o : Outcomes} → CallWay lay c m o → (o .answer .code ≡ 1 → ⊥) → o .page ≡ pageIn c
     go (sized _) n = refl
     go (bad _ _) n = refl
-    go (steps _ _) n = stepped (step-way c (machineOf m)) n
+    go (steps _ _) n = stepped (step-way c (machineOf lay m)) n

@@ -3,6 +3,7 @@ use mathlib.Core.Bool.{true, false}
 use mathlib.Core.Path.{_≡_}
 use Prim.Native.Nat.{ℕ, _≤_}
 use native.Mathlib.Omega.{arith}
+use lib.ListN.{length}
 use Rattle.tables.specs.Tables.{Machine, clientAt, directoryAt, replicaAt, slotAt, isEmpty}
 use Rattle.tables.proofs.Whole.{replica-stocked}
 use Rattle.inspect.specs.Good.{goodClient, goodReplica}
@@ -12,8 +13,8 @@ use Rattle.runs.proofs.Sound.{Sound}
 use Rattle.runs.proofs.Replicas.{Stores, stores}
 
 module _ {M : Machine} (z : Sound M) where
-  pub numbers-of : NumbersFacts (M .conf)
-  numbers-of = numbers-facts (M .conf) (numbers-pass M (z .good))
+  pub numbers-of : NumbersFacts (length (M .directories)) (M .conf)
+  numbers-of = numbers-facts (length (M .directories)) (M .conf) (numbers-pass M (z .good))
 
   pub client-of : (c : ℕ) → 1 ≤ c → c ≤ M .conf .clients → goodClient (M .conf) (clientAt M c) ≡ true
   client-of c l h = let n = numbers-of in client-good M (z .good) c l h (omega (arith, z .whole .clients))
@@ -21,7 +22,7 @@ module _ {M : Machine} (z : Sound M) where
   pub directory-of : (d : ℕ) → 1 ≤ d → d ≤ M .conf .directories → DirectoryFacts (M .conf) (directoryAt M d)
   directory-of d l h =
       let n = numbers-of in
-      directory-facts (M .conf) (directoryAt M d) (directory-good M (z .good) d l h (omega (arith, z .whole .directories)))
+      directory-facts (M .conf) (directoryAt M d) (directory-good M (z .good) d l h (omega arith))
 
   pub replica-of : (r : ℕ) → 1 ≤ r → r ≤ M .conf .replicas → goodReplica (M .conf) (replicaAt M r) ≡ true
   replica-of r l h = let n = numbers-of in replica-good M (z .good) r l h (omega (arith, z .whole .replicas))

@@ -10,12 +10,15 @@ use lib.Dec.{T, T-not}
 use lib.ListN.{length, drop, length-drop}
 use Rattle.sets.specs.Plain.{if_then_else_}
 use Rattle.sets.proofs.Tests.{T-true, not-not, not-both, either, if-ind}
+use Rattle.tables.specs.declared.Layout.{Layout}
 use Rattle.tables.specs.declared.Conf.{Conf}
 use Rattle.tables.specs.Tables.{Page, Machine}
+use Rattle.tables.specs.Layouts.{extent}
 use Rattle.tables.specs.Words.{words}
 use Rattle.tables.specs.Machines.{machineOf}
 use Rattle.tables.proofs.All.{All, none, cons}
-use Rattle.tables.proofs.Whole.{Paged, Whole, wholeOf}
+use Rattle.tables.proofs.Read.{its-room}
+use Rattle.tables.proofs.Whole.{Paged, Whole, whole-in, wholeOf}
 use Rattle.tables.proofs.Round.{words-back, machine-back, rest-words, length-words}
 use Rattle.inspect.specs.Good.{goodNumbers, good}
 use Rattle.inspect.proofs.Machines.{good-machine}
@@ -28,8 +31,8 @@ use Rattle.machine.specs.Buffers.{wrongPage, wrongSize, isSetUp, badMachine, Ou
 use Rattle.machine.proofs.Quiet.{quiet-fits}
 use Rattle.runs.proofs.Ways.{codeOf, StepWay, refuses, accepts, step-way, CallWay, sized, bad, steps, call-way, is-long, is-paged}
 use Rattle.runs.proofs.Sound.{Sound}
-use Rattle.runs.proofs.New.{new-sound}
-use Rattle.runs.proofs.Reached.{accepted-sound, step-sound}
+use Rattle.runs.proofs.New.{new-room, new-sound}
+use Rattle.runs.proofs.Reached.{accepted-sound, step-sound, step-room}
 
 -- ---- one call
 
@@ -44,24 +47,34 @@ shown t r = left (r .answer) (r .page) (words (r .machine) t)
 pub sized-sound : (c : Call) (M : Machine) → Sound M → Sound (sizedStep c M .machine)
 sized-sound c M z = if-ind (λ (r : Result). Sound (r .machine)) (wrongPage c) (λ _. z) (λ n. step-sound c M z n)
 
--- a buffer of 4,992 words or more that is not bad
-pub buffer-sound : (m : List ℕ) → 4992 ≤ length m → good m ≡ true → Sound (machineOf m)
-buffer-sound m h g = record { good = good-machine m g; whole = wholeOf m h }
+-- a machine that has room for as many directories as the layout
+abbrev pub In : Layout → Machine → Type 0
+In lay M = length (M .directories) ≡ lay .directories
 
-pub words-good : {M : Machine} → Sound M → (t : List ℕ) → good (words M t) ≡ true
+pub sized-in : {lay : Layout} (c : Call) (M : Machine) → In lay M → In lay (sizedStep c M .machine)
+sized-in {lay} c M i = if-ind (λ (r : Result). In lay (r .machine)) (wrongPage c) (λ _. i) (λ _. step-room c M ∙ i)
+
+-- a buffer that is long enough and not bad
+pub buffer-sound : (lay : Layout) (m : List ℕ) → extent lay ≤ length m → good lay m ≡ true → Sound (machineOf lay m)
+buffer-sound lay m h g = record { good = good-machine lay m g; whole = whole-in (wholeOf lay m h) refl }
+
+pub words-good : {lay : Layout} {M : Machine} → In lay M → Sound M → (t : List ℕ) → good lay (words M t) ≡ true
 unfolding good
-words-good {M} z t = rw (machine-back M t (z .whole)) (z .good)
+words-good {lay} {M} i z t = rw (machine-back lay M t (whole-in (z .whole) i)) (z .good)
 
-module _ (c : Call) {M : Machine} (z : Sound M) (t : List ℕ) where
-  pub call-is : call c (words M t) ≡ shown t (sizedStep c M)
+module _ {lay : Layout} (c : Call) {M : Machine} (i : In lay M) (z : Sound M) (t : List ℕ) where
+  pub call-is : call lay c (words M t) ≡ shown t (sizedStep c M)
   unfolding call good
   call-is =
-      ⊎-elim (λ (w : wrongPage c ≡ true). rw (le-ltb (length (words M t)) 4992 long, w))
-      (λ (w : wrongPage c ≡ false). rw (le-ltb (length (words M t)) 4992 long, w, machine-back M t (z .whole), z .good, and-false, rest-words M t (z .whole)))
+      ⊎-elim (λ (w : wrongPage c ≡ true). rw (le-ltb (length (words M t)) (extent lay) long, w))
+      (λ (w : wrongPage c ≡ false). rw (le-ltb (length (words M t)) (extent lay) long, w, machine-back lay M t whole, z .good, and-false, rest-words lay M t whole))
       (either (wrongPage c))
     where
-      long : 4992 ≤ length (words M t)
-      long = omega (arith, length-words M t (z .whole))
+      whole : Whole lay M
+      whole = whole-in (z .whole) i
+
+      long : extent lay ≤ length (words M t)
+      long = omega (arith, length-words lay M t whole)
 
 -- ---- a list of calls
 
@@ -70,74 +83,88 @@ unfoldable pub ran : Machine → List Call → List Result
 ran M [] = []
 ran M (c ∷ cs) = let r : Result = sizedStep c M in r ∷ ran (r .machine) cs
 
-unfoldable pub called : List ℕ → List Call → List Outcomes
-called m [] = []
-called m (c ∷ cs) = let o : Outcomes = call c m in o ∷ called (o .buffer) cs
+unfoldable pub called : Layout → List ℕ → List Call → List Outcomes
+called lay m [] = []
+called lay m (c ∷ cs) = let o : Outcomes = call lay c m in o ∷ called lay (o .buffer) cs
 
 -- the buffers and answers are the words and answers of the steps
-pub run-is : (cs : List Call) {M : Machine} → Sound M → (t : List ℕ) → called (words M t) cs ≡ map (shown t) (ran M cs)
+pub run-is : (lay : Layout) (cs : List Call) {M : Machine} → In lay M → Sound M → (t : List ℕ) → called lay (words M t) cs ≡ map (shown t) (ran M cs)
 unfolding called ran
-run-is [] z t = refl
-run-is (c ∷ cs) {M} z t =
-    ap (λ (o : Outcomes). o ∷ called (o .buffer) cs) (call-is c z t)
-    ∙ ap (λ (os : List Outcomes). shown t (sizedStep c M) ∷ os) (run-is cs (sized-sound c M z) t)
+run-is lay [] i z t = refl
+run-is lay (c ∷ cs) {M} i z t =
+    ap (λ (o : Outcomes). o ∷ called lay (o .buffer) cs) (call-is c i z t)
+    ∙ ap (λ (os : List Outcomes). shown t (sizedStep c M) ∷ os) (run-is lay cs (sized-in c M i) (sized-sound c M z) t)
 
 -- and no buffer is bad
-pub run-good : (cs : List Call) {M : Machine} → Sound M → (t : List ℕ) → All (λ (o : Outcomes). good (o .buffer) ≡ true) (called (words M t) cs)
+pub run-good : (lay : Layout) (cs : List Call) {M : Machine} → In lay M → Sound M → (t : List ℕ)
+    → All (λ (o : Outcomes). good lay (o .buffer) ≡ true) (called lay (words M t) cs)
 unfolding called
-run-good [] z t = none
-run-good (c ∷ cs) {M} z t =
-    subst (λ (o : Outcomes). All (λ (o : Outcomes). good (o .buffer) ≡ true) (o ∷ called (o .buffer) cs)) (sym (call-is c z t))
-    (cons (words-good (sized-sound c M z) t) (run-good cs (sized-sound c M z) t))
+run-good lay [] i z t = none
+run-good lay (c ∷ cs) {M} i z t =
+    subst (λ (o : Outcomes). All (λ (o : Outcomes). good lay (o .buffer) ≡ true) (o ∷ called lay (o .buffer) cs)) (sym (call-is c i z t))
+    (cons (words-good (sized-in c M i) (sized-sound c M z) t) (run-good lay cs (sized-in c M i) (sized-sound c M z) t))
 
 -- on a buffer that is not bad
-pub run-on : (m : List ℕ) → 4992 ≤ length m → good m ≡ true → (cs : List Call) → called m cs ≡ map (shown (drop 4992 m)) (ran (machineOf m) cs)
-run-on m h g cs = ap (λ (l : List ℕ). called l cs) (sym (words-back m h)) ∙ run-is cs (buffer-sound m h g) (drop 4992 m)
+pub run-on : (lay : Layout) (m : List ℕ) → extent lay ≤ length m → good lay m ≡ true → (cs : List Call)
+    → called lay m cs ≡ map (shown (drop (extent lay) m)) (ran (machineOf lay m) cs)
+run-on lay m h g cs =
+    ap (λ (l : List ℕ). called lay l cs) (sym (words-back lay m h)) ∙ run-is lay cs (its-room lay m) (buffer-sound lay m h g) (drop (extent lay) m)
 
 -- ---- from an accepted set-up on, whatever the buffer held
 
-module _ (k : Conf) (page : Page) (g : goodNumbers k ≡ true) (p : Paged page) where
-  pub set-up-accepted : (M : Machine) → codeOf (setUp k page) M ≡ 0
+module _ (lay : Layout) (k : Conf) (page : Page) (g : goodNumbers (lay .directories) k ≡ true) (p : Paged page) where
+  -- the machine that it makes
+  abbrev N : Machine
+  N = newMachine (lay .directories) k page
+
+  pub set-up-accepted : (M : Machine) → In lay M → codeOf (setUp k page) M ≡ 0
   unfolding refusal effectOf
-  set-up-accepted M = rw (g, quiet-fits M nothing)
+  set-up-accepted M i = rw (i, g, quiet-fits M nothing)
 
-  pub set-up-is : (m : List ℕ) → 4992 ≤ length m → call (setUp k page) m ≡ left (coded 0) [] (words (newMachine k page) (drop 4992 m))
+  pub set-up-is : (m : List ℕ) → extent lay ≤ length m → call lay (setUp k page) m ≡ left (coded 0) [] (words N (drop (extent lay) m))
   unfolding call step effectOf
-  set-up-is m h = rw (le-ltb (length m) 4992 h, eq-eqb (length page) 16 p, set-up-accepted (machineOf m))
+  set-up-is m h =
+      rw (le-ltb (length m) (extent lay) h, eq-eqb (length page) 16 p, set-up-accepted (machineOf lay m) (its-room lay m), its-room lay m)
 
-  pub run-from : (m : List ℕ) → 4992 ≤ length m → (cs : List Call)
-      → called m (setUp k page ∷ cs) ≡ left (coded 0) [] (words (newMachine k page) (drop 4992 m)) ∷ map (shown (drop 4992 m)) (ran (newMachine k page) cs)
+  pub run-from : (m : List ℕ) → extent lay ≤ length m → (cs : List Call)
+      → called lay m (setUp k page ∷ cs) ≡ left (coded 0) [] (words N (drop (extent lay) m)) ∷ map (shown (drop (extent lay) m)) (ran N cs)
   unfolding called
   run-from m h cs =
-      ap (λ (o : Outcomes). o ∷ called (o .buffer) cs) (set-up-is m h)
-      ∙ ap (λ (os : List Outcomes). left (coded 0) [] (words (newMachine k page) (drop 4992 m)) ∷ os) (run-is cs (new-sound k page p g) (drop 4992 m))
+      ap (λ (o : Outcomes). o ∷ called lay (o .buffer) cs) (set-up-is m h)
+      ∙ ap (λ (os : List Outcomes). left (coded 0) [] (words N (drop (extent lay) m)) ∷ os)
+      (run-is lay cs (new-room (lay .directories) k page) (new-sound k page p (lay .directories) g) (drop (extent lay) m))
 
 -- ---- the later words, for every call and every buffer
 
-pub record Beyond (m n : List ℕ) : Type 0 where
-  pub words : drop 4992 n ≡ drop 4992 m
+pub record Beyond (lay : Layout) (m n : List ℕ) : Type 0 where
+  pub words : drop (extent lay) n ≡ drop (extent lay) m
   pub long : length n ≡ length m
 
-pub later-kept : (c : Call) (m : List ℕ) → Beyond m (call c m .buffer)
-later-kept c m = go (call-way c m)
+pub later-kept : (lay : Layout) (c : Call) (m : List ℕ) → Beyond lay m (call lay c m .buffer)
+later-kept lay c m = go (call-way lay c m)
   where
-    same : Beyond m m
+    same : Beyond lay m m
     same = record { words = refl; long = refl }
 
-    whole : 4992 ≤ length m → {M : Machine} → Whole M → Beyond m (words M (drop 4992 m))
-    whole h {M} w = record { words = rest-words M (drop 4992 m) w; long = length-words M (drop 4992 m) w ∙ rw length-drop (omega arith) }
+    whole : extent lay ≤ length m → {M : Machine} → Whole lay M → Beyond lay m (words M (drop (extent lay) m))
+    whole h {M} w =
+        record {
+          words = rest-words lay M (drop (extent lay) m) w;
+          long = length-words lay M (drop (extent lay) m) w ∙ rw length-drop (omega arith);
+        }
 
-    sound-before : 4992 ≤ length m → T (not (badMachine c m)) → T (not (isSetUp c)) → Sound (machineOf m)
+    sound-before : extent lay ≤ length m → T (not (badMachine lay c m)) → T (not (isSetUp c)) → Sound (machineOf lay m)
     sound-before h b a =
-        buffer-sound m h
-        (T-true (good m) (⊎-elim (λ n. absurd (T-not (not (isSetUp c)) n a)) (λ n. not-not (good m) n) (not-both (not (isSetUp c)) (not (good m)) b)))
+        buffer-sound lay m h
+        (T-true (good lay m) (⊎-elim (λ n. absurd (T-not (not (isSetUp c)) n a)) (λ n. not-not (good lay m) n) (not-both (not (isSetUp c)) (not (good lay m)) b)))
 
-    stepped : T (not (wrongSize c m)) → T (not (badMachine c m)) → {r : Result} → StepWay c (machineOf m) r → Beyond m (words (r .machine) (drop 4992 m))
-    stepped n b (refuses _) = whole (is-long c m n) (wholeOf m (is-long c m n))
-    stepped n b (accepts e) =
-        whole (is-long c m n) (accepted-sound c (machineOf m) (sound-before (is-long c m n) b) (is-paged c m n) e .whole)
+    stepped : T (not (wrongSize lay c m)) → T (not (badMachine lay c m)) → {r : Result} → StepWay c (machineOf lay m) r
+        → In lay (r .machine) → Beyond lay m (words (r .machine) (drop (extent lay) m))
+    stepped n b (refuses _) i = whole (is-long lay c m n) (wholeOf lay m (is-long lay c m n))
+    stepped n b (accepts e) i =
+        whole (is-long lay c m n) (whole-in (accepted-sound c (machineOf lay m) (sound-before (is-long lay c m n) b) (is-paged lay c m n) e .whole) i)
 
-    go : {o : Outcomes} → CallWay c m o → Beyond m (o .buffer)
+    go : {o : Outcomes} → CallWay lay c m o → Beyond lay m (o .buffer)
     go (sized _) = same
     go (bad _ _) = same
-    go (steps n b) = stepped n b (step-way c (machineOf m))
+    go (steps n b) = stepped n b (step-way c (machineOf lay m)) (step-room c (machineOf lay m) ∙ its-room lay m)

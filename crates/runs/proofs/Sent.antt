@@ -16,8 +16,8 @@ use Rattle.tables.proofs.Whole.{Paged, blank-message}
 use Rattle.inspect.specs.Good.{between, zeros, field, goodTag, zeroTag, goodSet, isParty, goodMessage}
 use Rattle.inspect.proofs.Facts.{TagFacts, MessageFacts}
 use Rattle.inspect.proofs.Made.{tag-made}
-use Rattle.rules.specs.declared.Post.{Post}
-use Rattle.rules.specs.Posts.{post, noPost, toReceiver}
+use Rattle.mail.specs.declared.Post.{Post}
+use Rattle.mail.specs.Posts.{post, noPost, toReceiver}
 use Rattle.runs.proofs.Sound.{Sends}
 
 pub is-between : (low high n : ℕ) → low ≤ n → n ≤ high → between low high n ≡ true

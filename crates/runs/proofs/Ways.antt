@@ -9,11 +9,13 @@ use lib.Dec.{T, eqb, ltb, eqb→eq, nltb→le, T-not}
 use lib.ListN.{length, drop}
 use Rattle.sets.specs.Plain.{if_then_else_}
 use Rattle.sets.proofs.Tests.{neither, if-ind}
+use Rattle.tables.specs.declared.Layout.{Layout}
 use Rattle.tables.specs.declared.Message.{Message}
 use Rattle.tables.specs.declared.Party.{Party}
 use Rattle.tables.specs.declared.Party.the-variants.{Nobody, AClient, ADirectory, AReplica}
 use Rattle.tables.specs.Kinds.{receiverOf}
 use Rattle.tables.specs.Tables.{Page, Machine, clientAt, slotAt}
+use Rattle.tables.specs.Layouts.{extent}
 use Rattle.tables.specs.Words.{words}
 use Rattle.tables.specs.Machines.{machineOf}
 use Rattle.rules.specs.declared.Outcome.{Outcome}
@@ -134,20 +136,20 @@ allowed c M z =
 
 -- ---- a call
 
-pub data CallWay (c : Call) (m : List ℕ) : Outcomes → Type 0 where
-  sized : T (wrongSize c m) → CallWay c m (left (coded 16) (pageIn c) m)
-  bad : T (not (wrongSize c m)) → T (badMachine c m) → CallWay c m (left (coded 17) (pageIn c) m)
-  steps : T (not (wrongSize c m)) → T (not (badMachine c m))
-      → CallWay c m (left (step c (machineOf m) .answer) (step c (machineOf m) .page) (words (step c (machineOf m) .machine) (drop 4992 m)))
+pub data CallWay (lay : Layout) (c : Call) (m : List ℕ) : Outcomes → Type 0 where
+  sized : T (wrongSize lay c m) → CallWay lay c m (left (coded 16) (pageIn c) m)
+  bad : T (not (wrongSize lay c m)) → T (badMachine lay c m) → CallWay lay c m (left (coded 17) (pageIn c) m)
+  steps : T (not (wrongSize lay c m)) → T (not (badMachine lay c m))
+      → CallWay lay c m (left (step c (machineOf lay m) .answer) (step c (machineOf lay m) .page) (words (step c (machineOf lay m) .machine) (drop (extent lay) m)))
 
-pub call-way : (c : Call) (m : List ℕ) → CallWay c m (call c m)
+pub call-way : (lay : Layout) (c : Call) (m : List ℕ) → CallWay lay c m (call lay c m)
 unfolding call
-call-way c m =
-    if-ind (CallWay c m) (wrongSize c m) (λ w. sized w) (λ n. if-ind (CallWay c m) (badMachine c m) (λ b. bad n b) (λ g. steps n g))
+call-way lay c m =
+    if-ind (CallWay lay c m) (wrongSize lay c m) (λ w. sized w) (λ n. if-ind (CallWay lay c m) (badMachine lay c m) (λ b. bad n b) (λ g. steps n g))
 
 -- a buffer of the right size
-pub is-long : (c : Call) (m : List ℕ) → T (not (wrongSize c m)) → 4992 ≤ length m
-is-long c m n = nltb→le (length m) 4992 (neither (ltb (length m) 4992) (wrongPage c) n .0)
+pub is-long : (lay : Layout) (c : Call) (m : List ℕ) → T (not (wrongSize lay c m)) → extent lay ≤ length m
+is-long lay c m n = nltb→le (length m) (extent lay) (neither (ltb (length m) (extent lay)) (wrongPage c) n .0)
 
-pub is-paged : (c : Call) (m : List ℕ) → T (not (wrongSize c m)) → T (not (wrongPage c))
-is-paged c m n = neither (ltb (length m) 4992) (wrongPage c) n .1
+pub is-paged : (lay : Layout) (c : Call) (m : List ℕ) → T (not (wrongSize lay c m)) → T (not (wrongPage c))
+is-paged lay c m n = neither (ltb (length m) (extent lay)) (wrongPage c) n .1

@@ -31,6 +31,13 @@ joined-put (b ∷ bs) zero at r h g = rw (zero-add at) (put-before b (joined bs)
 joined-put (b ∷ bs) (suc k) at r h g =
     rw (add-assoc (length b) (offset bs k) at, put-after b (joined bs) (offset bs k + at) r, joined-put bs k at r (le-of-suc-le-suc h) g)
 
+-- block k of bs, which begins at base, written whole
+pub block-all : (bs : List (List ℕ)) (k base : ℕ) → k < length bs → offset bs k ≡ base → (r : List ℕ) → length r ≡ length (getD bs k []) → put (joined bs) base r ≡ joined (set bs k r)
+block-all bs k base h start r e =
+    ap (λ (n : ℕ). put (joined bs) n r) (sym (add-zero (offset bs k) ∙ start))
+    ∙ joined-put bs k 0 r h (omega arith)
+    ∙ ap (λ (q : List ℕ). joined (set bs k q)) (put-all (getD bs k []) r (sym e))
+
 -- block k of bs, which begins at base, is the rows of xs
 module _ {A : Type 0} (f : A → List ℕ) (w : ℕ) (bs : List (List ℕ)) (k base : ℕ) (in-bs : k < length bs) (start : offset bs k ≡ base)
     {xs : List A} (ws : Wide f w xs) (here : getD bs k [] ≡ rowsWords f xs) where

@@ -1,33 +1,21 @@
--- Empty slots, free entries and entries with a tag: what the words of the row say.
+-- Free entries and entries with a tag: what the words of the row say.
 use mathlib.Core.Path.{_≡_, sym, ap, _∙_}
 use mathlib.Core.Bool.{Bool, true, false}
 use mathlib.Core.List.{List}
-use Prim.Native.Nat.{ℕ, _+_, _*_, _-_, _<_}
+use Prim.Native.Nat.{ℕ, _*_, _-_, _<_}
 use native.Mathlib.Nat.{add-zero}
 use borrow.Author.Tests.{eq-eqb, ne-eqb}
 use lib.ListN.{length, getD, take, drop}
 use lib.Seq.{getD-drop}
 use Rattle.sets.specs.declared.Tag.{Tag}
 use Rattle.tables.specs.declared.Entry.{Entry}
-use Rattle.tables.specs.declared.Message.{Message}
-use Rattle.tables.specs.Tables.{noEntry, noMessage, isEmpty, isFree, hasTag}
-use Rattle.tables.specs.Machines.{entryOf, messageOf, entriesOf, machineOf}
-use Rattle.tables.proofs.Read.{slot-at, entry-at}
+use Rattle.tables.specs.Tables.{noEntry, isFree, hasTag}
+use Rattle.tables.specs.Machines.{entryOf, entriesOf}
+use Rattle.tables.proofs.Read.{entry-at}
 use Rattle.tables.proofs.Parts.{rest-all}
 
 first-word : (l : List ℕ) (at : ℕ) → getD (drop at l) 0 0 ≡ getD l at 0
 first-word l at = getD-drop at l 0 0 ∙ rw (add-zero at)
-
-module _ (m : List ℕ) (s : ℕ) (h : s < 128) where
-  kind-word : getD (machineOf m .slots) s noMessage .kind ≡ getD m (1920 + s * 24) 0
-  unfolding messageOf
-  kind-word = ap (λ (x : Message). x .kind) (slot-at m s h) ∙ first-word m (1920 + s * 24)
-
-  pub slot-empty : getD m (1920 + s * 24) 0 ≡ 0 → isEmpty (getD (machineOf m .slots) s noMessage) ≡ true
-  slot-empty e = eq-eqb _ _ (kind-word ∙ e)
-
-  pub slot-taken : (getD m (1920 + s * 24) 0 ≡ 0 → ⊥) → isEmpty (getD (machineOf m .slots) s noMessage) ≡ false
-  slot-taken e = rw kind-word (ne-eqb _ _ e)
 
 module _ (l : List ℕ) (j : ℕ) (h : j < 12) where
   state-word : getD (entriesOf l) j noEntry .state ≡ getD l (j * 20) 0

@@ -4,80 +4,78 @@ use mathlib.Core.List.{List}
 use Prim.Native.Nat.{ℕ, suc, _+_, _*_, _≤_, _<_}
 use native.Mathlib.Omega.{arith}
 use lib.ListN.{length, set, drop}
+use Rattle.tables.specs.declared.Layout.{Layout}
 use Rattle.tables.specs.declared.Client.{Client}
 use Rattle.tables.specs.declared.Directory.{Directory}
 use Rattle.tables.specs.declared.Entry.{Entry}
-use Rattle.tables.specs.declared.Message.{Message}
-use Rattle.tables.specs.Inner.{put, withDown, withEntry}
-use Rattle.tables.specs.Tables.{Machine, withClient, withDirectory, withSlot}
-use Rattle.tables.specs.Words.{clientWords, directoryWords, entryWords, messageWords, words}
+use Rattle.tables.specs.Layouts.{flagsAt, entriesAt, extent}
+use Rattle.tables.specs.Inner.{Fits, put, withDown, withEntry}
+use Rattle.tables.specs.Tables.{Machine, withClient, withDirectory}
+use Rattle.tables.specs.Words.{clientWords, directoryWords, entryWords, words}
 use Rattle.tables.specs.Machines.{machineOf}
-use Rattle.tables.proofs.Whole.{Paged, Whole, wholeOf, whole-client, whole-directory, whole-down, whole-entry, whole-slot}
-use Rattle.tables.proofs.Round.{machine-back, words-back, rest-words, length-words, put-client, put-directory, put-down, put-entry, put-slot}
+use Rattle.tables.proofs.Whole.{Paged, Whole, wholeOf, whole-client, whole-directory, whole-down, whole-entry}
+use Rattle.tables.proofs.Round.{machine-back, words-back, rest-words, length-words, put-client, put-directory, put-down, put-entry}
 
-pub record Holds (m : List ℕ) (M : Machine) (t : List ℕ) : Type 0 where
+pub record Holds (lay : Layout) (m : List ℕ) (M : Machine) (t : List ℕ) : Type 0 where
   pub is : m ≡ words M t
-  pub whole : Whole M
+  pub whole : Whole lay M
 
-pub holds-start : (m : List ℕ) → 4992 ≤ length m → Holds m (machineOf m) (drop 4992 m)
-holds-start m h = record { is = sym (words-back m h); whole = wholeOf m h }
+pub holds-start : (lay : Layout) (m : List ℕ) → Fits lay m → Holds lay m (machineOf lay m) (drop (extent lay) m)
+holds-start lay m h = record { is = sym (words-back lay m (h .long)); whole = wholeOf lay m (h .long) }
 
-module _ {m : List ℕ} {M : Machine} {t : List ℕ} (h : Holds m M t) where
+module _ {lay : Layout} {m : List ℕ} {M : Machine} {t : List ℕ} (h : Holds lay m M t) where
   -- what is read of the buffer
-  pub holds-machine : machineOf m ≡ M
-  holds-machine = ap machineOf (h .is) ∙ machine-back M t (h .whole)
+  pub holds-machine : machineOf lay m ≡ M
+  holds-machine = ap (machineOf lay) (h .is) ∙ machine-back lay M t (h .whole)
 
-  pub holds-rest : drop 4992 m ≡ t
-  holds-rest = ap (λ (q : List ℕ). drop 4992 q) (h .is) ∙ rest-words M t (h .whole)
+  pub holds-rest : drop (extent lay) m ≡ t
+  holds-rest = ap (λ (q : List ℕ). drop (extent lay) q) (h .is) ∙ rest-words lay M t (h .whole)
 
-  pub holds-length : length m ≡ 4992 + length t
-  holds-length = ap length (h .is) ∙ length-words M t (h .whole)
+  pub holds-length : length m ≡ extent lay + length t
+  holds-length = ap length (h .is) ∙ length-words lay M t (h .whole)
 
-  pub holds-long : 4992 ≤ length m
+  pub holds-long : extent lay ≤ length m
   holds-long = omega (arith, holds-length)
 
+  -- it is long enough for the layout, where another buffer is
+  pub holds-fits : {m₀ : List ℕ} → Fits lay m₀ → Fits lay m
+  holds-fits f = record { few = f .few; long = holds-long }
+
   -- a step of the machine
-  pub holds-step : (F : Machine → Machine) (l : List ℕ) → l ≡ words (F (machineOf m)) (drop 4992 m) → Whole (F M) → Holds l (F M) t
+  pub holds-step : (F : Machine → Machine) (l : List ℕ) → l ≡ words (F (machineOf lay m)) (drop (extent lay) m) → Whole lay (F M) → Holds lay l (F M) t
   holds-step F l e w =
       record {
-        is = e ∙ ap (λ (N : Machine). words (F N) (drop 4992 m)) holds-machine ∙ ap (λ (q : List ℕ). words (F M) q) holds-rest;
+        is = e ∙ ap (λ (N : Machine). words (F N) (drop (extent lay) m)) holds-machine ∙ ap (λ (q : List ℕ). words (F M) q) holds-rest;
         whole = w;
       }
 
   -- a row or a flag written
   module _ (l : List ℕ) (i : ℕ) where
-    pub holds-client : (x : Client) → i < 8 → Paged (x .page) → l ≡ put m (16 + i * 24) (clientWords x) → Holds l (withClient M (suc i) x) t
+    pub holds-client : (x : Client) → i < 8 → Paged (x .page) → l ≡ put m (16 + i * 24) (clientWords x) → Holds lay l (withClient M (suc i) x) t
     holds-client x b p e =
         record {
-          is = e ∙ ap (λ (q : List ℕ). put q (16 + i * 24) (clientWords x)) (h .is) ∙ put-client M t (h .whole) i x b p;
+          is = e ∙ ap (λ (q : List ℕ). put q (16 + i * 24) (clientWords x)) (h .is) ∙ put-client lay M t (h .whole) i x b p;
           whole = whole-client (h .whole) (suc i) x p;
         }
 
-    pub holds-directory : (x : Directory) → i < 5 → l ≡ put m (208 + i * 4) (directoryWords x) → Holds l (withDirectory M (suc i) x) t
+    pub holds-directory : (x : Directory) → i < lay .directories → l ≡ put m (208 + i * 4) (directoryWords x) → Holds lay l (withDirectory M (suc i) x) t
     holds-directory x b e =
         record {
-          is = e ∙ ap (λ (q : List ℕ). put q (208 + i * 4) (directoryWords x)) (h .is) ∙ put-directory M t (h .whole) i x b;
+          is = e ∙ ap (λ (q : List ℕ). put q (208 + i * 4) (directoryWords x)) (h .is) ∙ put-directory lay M t (h .whole) i x b;
           whole = whole-directory (h .whole) (suc i) x;
         }
 
-    pub holds-down : (x : ℕ) → i < 7 → l ≡ set m (228 + i) x → Holds l (withDown M (suc i) x) t
+    pub holds-down : (x : ℕ) → i < 7 → l ≡ set m (flagsAt lay + i) x → Holds lay l (withDown M (suc i) x) t
     holds-down x b e =
         record {
-          is = e ∙ ap (λ (q : List ℕ). set q (228 + i) x) (h .is) ∙ put-down M t (h .whole) i x b;
+          is = e ∙ ap (λ (q : List ℕ). set q (flagsAt lay + i) x) (h .is) ∙ put-down lay M t (h .whole) i x b;
           whole = whole-down (h .whole) (suc i) x;
         }
 
-    pub holds-entry : (j : ℕ) (x : Entry) → i < 7 → j < 12 → Paged (x .page) → l ≡ put m (240 + i * 240 + j * 20) (entryWords x)
-        → Holds l (withEntry M (suc i) (suc j) x) t
+    pub holds-entry : (j : ℕ) (x : Entry) → i < 7 → j < 12 → Paged (x .page) → l ≡ put m (entriesAt lay + i * 240 + j * 20) (entryWords x)
+        → Holds lay l (withEntry M (suc i) (suc j) x) t
     holds-entry j x b c p e =
         record {
-          is = e ∙ ap (λ (q : List ℕ). put q (240 + i * 240 + j * 20) (entryWords x)) (h .is) ∙ put-entry M t (h .whole) i j x b c p;
+          is = e ∙ ap (λ (q : List ℕ). put q (entriesAt lay + i * 240 + j * 20) (entryWords x)) (h .is) ∙ put-entry lay M t (h .whole) i j x b c p;
           whole = whole-entry (h .whole) (suc i) (suc j) x p;
-        }
-
-    pub holds-slot : (x : Message) → i < 128 → Paged (x .page) → l ≡ put m (1920 + i * 24) (messageWords x) → Holds l (withSlot M (suc i) x) t
-    holds-slot x b p e =
-        record {
-          is = e ∙ ap (λ (q : List ℕ). put q (1920 + i * 24) (messageWords x)) (h .is) ∙ put-slot M t (h .whole) i x b p;
-          whole = whole-slot (h .whole) (suc i) x p;
         }

@@ -2,14 +2,16 @@
 use mathlib.Core.Path.{_≡_, refl, _∙_}
 use mathlib.Core.List.{List}
 use Prim.Native.Nat.{ℕ, zero, suc, _+_, _*_, _≤_, _<_}
-use native.Mathlib.Nat.{zero-add, add-comm, le-of-suc-le-suc, not-suc-le-zero}
+use native.Mathlib.Nat.{add-comm, le-of-suc-le-suc, not-suc-le-zero}
 use native.Mathlib.Numerals.{add-one}
 use native.Mathlib.Omega.{arith}
 use lib.ListN.{length, getD, take, drop}
 use lib.Seq.{drop-drop, getD-drop, take-add}
+use Rattle.tables.specs.declared.Layout.{Layout}
 use Rattle.tables.specs.Tables.{noClient, noDirectory, noEntry, noReplica, noMessage}
+use Rattle.tables.specs.Layouts.{flagsAt, entriesAt, slotsAt}
 use Rattle.tables.specs.Words.{clientWords, directoryWords, entryWords, replicaWords, messageWords}
-use Rattle.tables.specs.Machines.{clientOf, directoryOf, entryOf, messageOf, entriesOf, replicasOf, machineOf}
+use Rattle.tables.specs.Machines.{clientOf, directoryOf, entryOf, messageOf, clientsOf, directoriesOf, slotsOf, entriesOf, replicasOf, machineOf}
 use Rattle.tables.proofs.Table.{wider, take-cells, getD-cut, part-cut, length-rowsOf, getD-rowsOf, rowsOf-cut, rowsWords-back}
 
 -- ---- a row read and written again is its words
@@ -58,55 +60,68 @@ entries-cut l = rowsOf-cut entryOf 12 20 l entry-cut
 
 -- ---- where each row stands
 
-pub client-at : (m : List ℕ) (i : ℕ) → i < 8 → getD (machineOf m .clients) i noClient ≡ clientOf (drop (16 + i * 24) m)
-unfolding machineOf
-client-at m i h = getD-rowsOf clientOf 8 24 16 m i noClient h
+pub client-at : (l : List ℕ) (i : ℕ) → i < 8 → getD (clientsOf l) i noClient ≡ clientOf (drop (i * 24) l)
+unfolding clientsOf
+client-at l i h = getD-rowsOf clientOf 8 24 l i noClient h
 
-pub directory-at : (m : List ℕ) (i : ℕ) → i < 5 → getD (machineOf m .directories) i noDirectory ≡ directoryOf (drop (208 + i * 4) m)
-unfolding machineOf
-directory-at m i h = getD-rowsOf directoryOf 5 4 208 m i noDirectory h
+pub directory-at : (n : ℕ) (l : List ℕ) (i : ℕ) → i < n → getD (directoriesOf n l) i noDirectory ≡ directoryOf (drop (i * 4) l)
+unfolding directoriesOf
+directory-at n l i h = getD-rowsOf directoryOf n 4 l i noDirectory h
 
-pub slot-at : (m : List ℕ) (i : ℕ) → i < 128 → getD (machineOf m .slots) i noMessage ≡ messageOf (drop (1920 + i * 24) m)
-unfolding machineOf
-slot-at m i h = getD-rowsOf messageOf 128 24 1920 m i noMessage h
+pub slot-at : (l : List ℕ) (i : ℕ) → i < 128 → getD (slotsOf l) i noMessage ≡ messageOf (drop (i * 24) l)
+unfolding slotsOf
+slot-at l i h = getD-rowsOf messageOf 128 24 l i noMessage h
 
 pub entry-at : (l : List ℕ) (j : ℕ) → j < 12 → getD (entriesOf l) j noEntry ≡ entryOf (drop (j * 20) l)
 unfolding entriesOf
-entry-at l j h = getD-rowsOf entryOf 12 20 0 l j noEntry h ∙ rw (zero-add (j * 20))
+entry-at l j h = getD-rowsOf entryOf 12 20 l j noEntry h
 
-getD-replicasOf : (n i : ℕ) (flags l : List ℕ) → i < n
+pub replica-in : (n i : ℕ) (flags l : List ℕ) → i < n
     → getD (replicasOf n flags l) i noReplica ≡ record { down = getD flags i 0; entries = entriesOf (drop (i * 240) l) }
 unfolding replicasOf
-getD-replicasOf zero i flags l h = absurd (not-suc-le-zero h)
-getD-replicasOf (suc n) zero flags l h = refl
-getD-replicasOf (suc n) (suc i) flags l h =
-    getD-replicasOf n i (drop 1 flags) (drop 240 l) (le-of-suc-le-suc h)
+replica-in zero i flags l h = absurd (not-suc-le-zero h)
+replica-in (suc n) zero flags l h = refl
+replica-in (suc n) (suc i) flags l h =
+    replica-in n i (drop 1 flags) (drop 240 l) (le-of-suc-le-suc h)
     ∙ rw (getD-drop 1 flags i 0, drop-drop (i * 240) 240 l, wider i 240, add-comm 1 i, add-one i)
 
-pub replica-at : (m : List ℕ) (i : ℕ) → i < 7
-    → getD (machineOf m .replicas) i noReplica ≡ record { down = getD m (228 + i) 0; entries = entriesOf (drop (240 + i * 240) m) }
+pub replica-at : (lay : Layout) (m : List ℕ) (i : ℕ) → i < 7
+    → getD (machineOf lay m .replicas) i noReplica ≡ record { down = getD m (flagsAt lay + i) 0; entries = entriesOf (drop (entriesAt lay + i * 240) m) }
 unfolding machineOf
-replica-at m i h =
-    getD-replicasOf 7 i (drop 228 m) (drop 240 m) h ∙ rw (getD-drop 228 m i 0, drop-drop (i * 240) 240 m)
+replica-at lay m i h =
+    replica-in 7 i (drop (flagsAt lay) m) (drop (entriesAt lay) m) h ∙ rw (getD-drop (flagsAt lay) m i 0, drop-drop (i * 240) (entriesAt lay) m)
 
 -- ---- how many rows there are
 
-pub clients-many : (m : List ℕ) → length (machineOf m .clients) ≡ 8
-unfolding machineOf
-clients-many m = length-rowsOf clientOf 8 24 (drop 16 m)
+pub clients-many : (l : List ℕ) → length (clientsOf l) ≡ 8
+unfolding clientsOf
+clients-many l = length-rowsOf clientOf 8 24 l
 
-pub directories-many : (m : List ℕ) → length (machineOf m .directories) ≡ 5
-unfolding machineOf
-directories-many m = length-rowsOf directoryOf 5 4 (drop 208 m)
+pub directories-many : (n : ℕ) (l : List ℕ) → length (directoriesOf n l) ≡ n
+unfolding directoriesOf
+directories-many n l = length-rowsOf directoryOf n 4 l
 
-pub replicas-many : (m : List ℕ) → length (machineOf m .replicas) ≡ 7
-unfolding machineOf replicasOf
-replicas-many m = refl
+pub replicas-many : (flags l : List ℕ) → length (replicasOf 7 flags l) ≡ 7
+unfolding replicasOf
+replicas-many flags l = refl
 
-pub slots-many : (m : List ℕ) → length (machineOf m .slots) ≡ 128
-unfolding machineOf
-slots-many m = length-rowsOf messageOf 128 24 (drop 1920 m)
+pub slots-many : (l : List ℕ) → length (slotsOf l) ≡ 128
+unfolding slotsOf
+slots-many l = length-rowsOf messageOf 128 24 l
 
 pub entries-many : (l : List ℕ) → length (entriesOf l) ≡ 12
 unfolding entriesOf
 entries-many l = length-rowsOf entryOf 12 20 l
+
+-- in a machine that is read; it has room for as many directories as its layout
+pub its-room : (lay : Layout) (m : List ℕ) → length (machineOf lay m .directories) ≡ lay .directories
+unfolding machineOf
+its-room lay m = directories-many (lay .directories) (drop 208 m)
+
+pub its-replicas : (lay : Layout) (m : List ℕ) → length (machineOf lay m .replicas) ≡ 7
+unfolding machineOf
+its-replicas lay m = replicas-many (drop (flagsAt lay) m) (drop (entriesAt lay) m)
+
+pub its-slots : (lay : Layout) (m : List ℕ) → length (machineOf lay m .slots) ≡ 128
+unfolding machineOf
+its-slots lay m = slots-many (drop (slotsAt lay) m)

@@ -6,18 +6,20 @@ use native.Mathlib.Nat.{add-assoc, mul-one}
 use native.Mathlib.Omega.{arith}
 use lib.ListN.{length, getD, set, take, drop, length-append, length-drop, take-append-drop}
 use lib.Seq.{drop-at, drop-drop, take-add, take-at}
+use Rattle.tables.specs.declared.Layout.{Layout}
 use Rattle.tables.specs.declared.Client.{Client}
 use Rattle.tables.specs.declared.Directory.{Directory}
 use Rattle.tables.specs.declared.Entry.{Entry}
 use Rattle.tables.specs.declared.Message.{Message}
 use Rattle.tables.specs.Rows.{rowsWords, joined}
+use Rattle.tables.specs.Layouts.{flagsAt, gapAt, entriesAt, slotsAt, extent}
 use Rattle.tables.specs.Inner.{put, withDown, withEntry}
-use Rattle.tables.specs.Machines.{rowsOf, confOf, clientOf, directoryOf, entryOf, messageOf, entriesOf, replicasOf, machineOf}
-use Rattle.tables.specs.Tables.{Replica, Machine, noReplica, replicaAt, withClient, withDirectory, withSlot}
+use Rattle.tables.specs.Machines.{confOf, clientOf, directoryOf, entryOf, messageOf, clientsOf, directoriesOf, slotsOf, entriesOf, replicasOf, machineOf}
+use Rattle.tables.specs.Tables.{Replica, Machine, noReplica, replicaAt, withClient, withDirectory, withSlots}
 use Rattle.tables.specs.Words.{confWords, clientWords, directoryWords, downWords, entryWords, replicaWords, messageWords, blocks, words}
 use Rattle.tables.proofs.All.{All, none, cons, all-of, all-map}
 use Rattle.tables.proofs.Table.{Wide, wider, take-cells, set-put, length-rows, rows-same, rows-set, rowsOf-back, rowsWords-back}
-use Rattle.tables.proofs.Blocks.{offset, joined-drop, block-put, block-set}
+use Rattle.tables.proofs.Blocks.{offset, joined-drop, block-all, block-put, block-set}
 use Rattle.tables.proofs.Read.{client-words, directory-words, message-words, replica-words}
 use Rattle.tables.proofs.Whole.{Paged, Stocked, Whole, replica-stocked}
 
@@ -61,7 +63,7 @@ entry-back : (x : Entry) (q : List ℕ) → Paged (x .page) → entryOf (entryWo
 unfolding entryOf entryWords
 entry-back x q p = rw (take-at (x .page) q 16 p)
 
-message-back : (x : Message) (q : List ℕ) → Paged (x .page) → messageOf (messageWords x ++ q) ≡ x
+pub message-back : (x : Message) (q : List ℕ) → Paged (x .page) → messageOf (messageWords x ++ q) ≡ x
 unfolding messageOf messageWords
 message-back x q p = rw (take-at (x .page) q 16 p)
 
@@ -77,7 +79,7 @@ stocks-back none s t = refl
 stocks-back (cons {x = r} {xs = rs} p ps) s t =
     rw (append-assoc (replicaWords r) (rowsWords replicaWords rs) t, entries-back r (rowsWords replicaWords rs ++ t) p, drop-at (replicaWords r) (rowsWords replicaWords rs ++ t) 240 (replica-wide r p), stocks-back ps s t)
 
-module _ (M : Machine) (t : List ℕ) (z : Whole M) where
+module _ (lay : Layout) (M : Machine) (t : List ℕ) (z : Whole lay M) where
   clients-wide : Wide clientWords 24 (M .clients)
   clients-wide = all-map client-wide (z .client-pages)
 
@@ -96,7 +98,7 @@ module _ (M : Machine) (t : List ℕ) (z : Whole M) where
   clients-long : length (rowsWords clientWords (M .clients)) ≡ 192
   clients-long = length-rows clientWords 24 clients-wide ∙ ap (λ (n : ℕ). n * 24) (z .clients)
 
-  directories-long : length (rowsWords directoryWords (M .directories)) ≡ 20
+  directories-long : length (rowsWords directoryWords (M .directories)) ≡ lay .directories * 4
   directories-long = length-rows directoryWords 4 directories-wide ∙ ap (λ (n : ℕ). n * 4) (z .directories)
 
   downs-long : length (rowsWords downWords (M .replicas)) ≡ 7
@@ -117,36 +119,36 @@ module _ (M : Machine) (t : List ℕ) (z : Whole M) where
   unfolding blocks confWords
   at-directories = rw (z .spare, clients-long)
 
-  at-downs : offset (blocks M t) 4 ≡ 228
+  at-downs : offset (blocks M t) 4 ≡ flagsAt lay
   unfolding blocks confWords
-  at-downs = rw (z .spare, clients-long, directories-long)
+  at-downs = rw (z .spare, clients-long, directories-long) (omega arith)
 
-  at-gap : offset (blocks M t) 5 ≡ 235
+  at-gap : offset (blocks M t) 5 ≡ gapAt lay
   unfolding blocks confWords
-  at-gap = rw (z .spare, clients-long, directories-long, downs-long)
+  at-gap = rw (z .spare, clients-long, directories-long, downs-long) (omega arith)
 
-  pub at-replicas : offset (blocks M t) 6 ≡ 240
+  pub at-replicas : offset (blocks M t) 6 ≡ entriesAt lay
   unfolding blocks confWords
-  at-replicas = rw (z .spare, clients-long, directories-long, downs-long, z .gap)
+  at-replicas = rw (z .spare, clients-long, directories-long, downs-long, z .gap) (omega arith)
 
-  at-slots : offset (blocks M t) 7 ≡ 1920
+  at-slots : offset (blocks M t) 7 ≡ slotsAt lay
   unfolding blocks confWords
-  at-slots = rw (z .spare, clients-long, directories-long, downs-long, z .gap, replicas-long)
+  at-slots = rw (z .spare, clients-long, directories-long, downs-long, z .gap, replicas-long) (omega arith)
 
-  at-rest : offset (blocks M t) 8 ≡ 4992
+  at-rest : offset (blocks M t) 8 ≡ extent lay
   unfolding blocks confWords
-  at-rest = rw (z .spare, clients-long, directories-long, downs-long, z .gap, replicas-long, slots-long)
+  at-rest = rw (z .spare, clients-long, directories-long, downs-long, z .gap, replicas-long, slots-long) (omega arith)
 
   -- the words from a table on
   from : (k base : ℕ) → offset (blocks M t) k ≡ base → drop base (words M t) ≡ joined (drop k (blocks M t))
   unfolding words
   from k base e = ap (λ (n : ℕ). drop n (joined (blocks M t))) (sym e) ∙ joined-drop (blocks M t) k
 
-  pub rest-words : drop 4992 (words M t) ≡ t
+  pub rest-words : drop (extent lay) (words M t) ≡ t
   unfolding blocks joined
-  rest-words = from 8 4992 at-rest ∙ append-nil t
+  rest-words = from 8 (extent lay) at-rest ∙ append-nil t
 
-  pub length-words : length (words M t) ≡ 4992 + length t
+  pub length-words : length (words M t) ≡ extent lay + length t
   unfolding words blocks joined confWords
   length-words =
       simp (length-append, z .spare, clients-long, directories-long, downs-long, z .gap, replicas-long, slots-long) (omega arith)
@@ -159,31 +161,31 @@ module _ (M : Machine) (t : List ℕ) (z : Whole M) where
   unfolding words blocks joined confWords
   spare-back = take-at (M .spare) _ 9 (z .spare)
 
-  clients-back : rowsOf clientOf 8 24 (drop 16 (words M t)) ≡ M .clients
-  unfolding blocks joined
+  clients-back : clientsOf (drop 16 (words M t)) ≡ M .clients
+  unfolding clientsOf blocks joined
   clients-back = rw (from 2 16 at-clients) (rowsOf-back clientWords 24 clientOf client-wide client-back (z .client-pages) 8 _ (z .clients))
 
-  directories-back : rowsOf directoryOf 5 4 (drop 208 (words M t)) ≡ M .directories
-  unfolding blocks joined
+  directories-back : directoriesOf (lay .directories) (drop 208 (words M t)) ≡ M .directories
+  unfolding directoriesOf blocks joined
   directories-back =
       rw (from 3 208 at-directories)
-      (rowsOf-back directoryWords 4 directoryOf (λ x p. directory-wide x) directory-back (all-of (λ x. tt) (M .directories)) 5 _ (z .directories))
+      (rowsOf-back directoryWords 4 directoryOf (λ x p. directory-wide x) directory-back (all-of (λ x. tt) (M .directories)) (lay .directories) _ (z .directories))
 
-  gap-back : take 5 (drop 235 (words M t)) ≡ M .gap
+  gap-back : take 5 (drop (gapAt lay) (words M t)) ≡ M .gap
   unfolding blocks joined
-  gap-back = rw (from 5 235 at-gap) (take-at (M .gap) _ 5 (z .gap))
+  gap-back = rw (from 5 (gapAt lay) at-gap) (take-at (M .gap) _ 5 (z .gap))
 
-  replicas-back : replicasOf 7 (drop 228 (words M t)) (drop 240 (words M t)) ≡ M .replicas
+  replicas-back : replicasOf 7 (drop (flagsAt lay) (words M t)) (drop (entriesAt lay) (words M t)) ≡ M .replicas
   unfolding blocks joined
   replicas-back =
-      rw (from 4 228 at-downs, from 6 240 at-replicas, ← z .replicas) (stocks-back (z .stocks) _ _)
+      rw (from 4 (flagsAt lay) at-downs, from 6 (entriesAt lay) at-replicas, ← z .replicas) (stocks-back (z .stocks) _ _)
 
-  slots-back : rowsOf messageOf 128 24 (drop 1920 (words M t)) ≡ M .slots
-  unfolding blocks joined
-  slots-back = rw (from 7 1920 at-slots) (rowsOf-back messageWords 24 messageOf message-wide message-back (z .slot-pages) 128 _ (z .slots))
+  slots-back : slotsOf (drop (slotsAt lay) (words M t)) ≡ M .slots
+  unfolding slotsOf blocks joined
+  slots-back = rw (from 7 (slotsAt lay) at-slots) (rowsOf-back messageWords 24 messageOf message-wide message-back (z .slot-pages) 128 _ (z .slots))
 
   -- the words of a whole machine are read as that machine
-  pub machine-back : machineOf (words M t) ≡ M
+  pub machine-back : machineOf lay (words M t) ≡ M
   unfolding machineOf
   machine-back = λ j.
       record {
@@ -202,41 +204,43 @@ module _ (M : Machine) (t : List ℕ) (z : Whole M) where
   unfolding words blocks
   put-client i x h p = block-set clientWords 24 (blocks M t) 2 16 (omega arith) at-clients clients-wide refl i x (rw (z .clients) h) (client-wide x p)
 
-  pub put-directory : (i : ℕ) (x : Directory) → i < 5 → put (words M t) (208 + i * 4) (directoryWords x) ≡ words (withDirectory M (suc i) x) t
+  pub put-directory : (i : ℕ) (x : Directory) → i < lay .directories → put (words M t) (208 + i * 4) (directoryWords x) ≡ words (withDirectory M (suc i) x) t
   unfolding words blocks
   put-directory i x h = block-set directoryWords 4 (blocks M t) 3 208 (omega arith) at-directories directories-wide refl i x (rw (z .directories) h) (directory-wide x)
 
-  pub put-slot : (i : ℕ) (x : Message) → i < 128 → Paged (x .page) → put (words M t) (1920 + i * 24) (messageWords x) ≡ words (withSlot M (suc i) x) t
+  -- the slots are written as one block
+  pub put-slots : (xs : List Message) → length (rowsWords messageWords xs) ≡ 3072
+      → put (words M t) (slotsAt lay) (rowsWords messageWords xs) ≡ words (withSlots M xs) t
   unfolding words blocks
-  put-slot i x h p = block-set messageWords 24 (blocks M t) 7 1920 (omega arith) at-slots slots-wide refl i x (rw (z .slots) h) (message-wide x p)
+  put-slots xs e = block-all (blocks M t) 7 (slotsAt lay) (omega arith) at-slots (rowsWords messageWords xs) (omega (arith, e, slots-long))
 
   -- a flag is a word; the replica's entries stay
-  pub put-down : (i x : ℕ) → i < 7 → set (words M t) (228 + i) x ≡ words (withDown M (suc i) x) t
+  pub put-down : (i x : ℕ) → i < 7 → set (words M t) (flagsAt lay + i) x ≡ words (withDown M (suc i) x) t
   unfolding words blocks downWords replicaWords
   put-down i x h =
       let new : Replica = record { down = x; entries = replicaAt M (suc i) .entries } in
       rw (rows-same replicaWords (M .replicas) i new noReplica refl)
-      (set-put (words M t) (228 + i) x (rw length-words (omega arith))
-      ∙ ap (λ (k : ℕ). put (words M t) (228 + k) (x ∷ [])) (sym (mul-one i))
-      ∙ block-set downWords 1 (blocks M t) 4 228 (omega arith) at-downs downs-wide refl i new (rw (z .replicas) h) refl)
+      (set-put (words M t) (flagsAt lay + i) x (rw length-words (omega arith))
+      ∙ ap (λ (k : ℕ). put (words M t) (flagsAt lay + k) (x ∷ [])) (sym (mul-one i))
+      ∙ block-set downWords 1 (blocks M t) 4 (flagsAt lay) (omega arith) at-downs downs-wide refl i new (rw (z .replicas) h) refl)
 
   -- an entry is part of the replica's words; its flag stays
   pub put-entry : (i j : ℕ) (x : Entry) → i < 7 → j < 12 → Paged (x .page)
-      → put (words M t) (240 + i * 240 + j * 20) (entryWords x) ≡ words (withEntry M (suc i) (suc j) x) t
+      → put (words M t) (entriesAt lay + i * 240 + j * 20) (entryWords x) ≡ words (withEntry M (suc i) (suc j) x) t
   unfolding words blocks downWords replicaWords
   put-entry i j x h g p =
       let old : Replica = replicaAt M (suc i) in
       let new : Replica = record { down = old .down; entries = set (old .entries) j x } in
       let s : Stocked old = replica-stocked z (suc i) in
-      rw (rows-same downWords (M .replicas) i new noReplica refl, add-assoc 240 (i * 240) (j * 20))
-      (block-put replicaWords 240 (blocks M t) 6 240 (omega arith) at-replicas replicas-wide refl i (j * 20) new noReplica (entryWords x) (rw (z .replicas) h) (omega (arith, entry-wide x p))
+      rw (rows-same downWords (M .replicas) i new noReplica refl, add-assoc (entriesAt lay) (i * 240) (j * 20))
+      (block-put replicaWords 240 (blocks M t) 6 (entriesAt lay) (omega arith) at-replicas replicas-wide refl i (j * 20) new noReplica (entryWords x) (rw (z .replicas) h) (omega (arith, entry-wide x p))
       (rows-set entryWords 20 (all-map entry-wide (s .pages)) j x (rw (s .many) g) (entry-wide x p)))
 
 -- ---- the machine that words are read as has these words
 
--- n words and what follows them
-cut : (l : List ℕ) (a n : ℕ) → take n (drop a l) ++ drop (a + n) l ≡ drop a l
-cut l a n = ap (λ (q : List ℕ). take n (drop a l) ++ q) (sym (drop-drop n a l)) ∙ take-append-drop n (drop a l)
+-- n words, and what follows them from place b on
+cut : (l : List ℕ) (a n b : ℕ) → a + n ≡ b → take n (drop a l) ++ drop b l ≡ drop a l
+cut l a n b e = ap (λ (q : List ℕ). take n (drop a l) ++ q) (ap (λ (k : ℕ). drop k l) (sym e) ∙ sym (drop-drop n a l)) ∙ take-append-drop n (drop a l)
 
 downs-kept : (n : ℕ) (flags l : List ℕ) → n ≤ length flags → rowsWords downWords (replicasOf n flags l) ≡ take n flags
 unfolding replicasOf rowsWords downWords
@@ -256,23 +260,23 @@ unfolding confWords confOf
 conf-kept m h = rw (take-cells m 0 7 h)
 
 -- a buffer that is long enough is the words of the machine that it is read as
-pub words-back : (m : List ℕ) → 4992 ≤ length m → words (machineOf m) (drop 4992 m) ≡ m
-unfolding words blocks machineOf joined
-words-back m h =
+pub words-back : (lay : Layout) (m : List ℕ) → extent lay ≤ length m → words (machineOf lay m) (drop (extent lay) m) ≡ m
+unfolding words blocks machineOf clientsOf directoriesOf slotsOf joined
+words-back lay m h =
     rw (
       conf-kept m (omega arith),
       rowsWords-back clientOf clientWords 8 24 (drop 16 m) client-words (rw length-drop (omega arith)),
-      rowsWords-back directoryOf directoryWords 5 4 (drop 208 m) directory-words (rw length-drop (omega arith)),
-      downs-kept 7 (drop 228 m) (drop 240 m) (rw length-drop (omega arith)),
-      replicas-kept 7 (drop 228 m) (drop 240 m) (rw length-drop (omega arith)),
-      rowsWords-back messageOf messageWords 128 24 (drop 1920 m) message-words (rw length-drop (omega arith)),
-      append-nil (drop 4992 m),
-      cut m 1920 3072,
-      cut m 240 1680,
-      cut m 235 5,
-      cut m 228 7,
-      cut m 208 20,
-      cut m 16 192,
-      cut m 7 9,
+      rowsWords-back directoryOf directoryWords (lay .directories) 4 (drop 208 m) directory-words (rw length-drop (omega arith)),
+      downs-kept 7 (drop (flagsAt lay) m) (drop (entriesAt lay) m) (rw length-drop (omega arith)),
+      replicas-kept 7 (drop (flagsAt lay) m) (drop (entriesAt lay) m) (rw length-drop (omega arith)),
+      rowsWords-back messageOf messageWords 128 24 (drop (slotsAt lay) m) message-words (rw length-drop (omega arith)),
+      append-nil (drop (extent lay) m),
+      cut m (slotsAt lay) 3072 (extent lay) (omega arith),
+      cut m (entriesAt lay) 1680 (slotsAt lay) (omega arith),
+      cut m (gapAt lay) 5 (entriesAt lay) (omega arith),
+      cut m (flagsAt lay) 7 (gapAt lay) (omega arith),
+      cut m 208 (lay .directories * 4) (flagsAt lay) (omega arith),
+      cut m 16 192 208 (omega arith),
+      cut m 7 9 16 (omega arith),
     )
     (take-append-drop 7 m)

@@ -51,12 +51,11 @@ module _ {A : Type 0} (g : List ℕ → A) where
   length-rowsOf zero w l = refl
   length-rowsOf (suc n) w l = ap suc (length-rowsOf n w (drop w l))
 
-  pub getD-rowsOf : (n w base : ℕ) (l : List ℕ) (i : ℕ) (d : A) → i < n → getD (rowsOf g n w (drop base l)) i d ≡ g (drop (base + i * w) l)
+  pub getD-rowsOf : (n w : ℕ) (l : List ℕ) (i : ℕ) (d : A) → i < n → getD (rowsOf g n w l) i d ≡ g (drop (i * w) l)
   unfolding rowsOf
-  getD-rowsOf zero w base l i d h = absurd (not-suc-le-zero h)
-  getD-rowsOf (suc n) w base l zero d h = rw (zero-mul w, add-zero base)
-  getD-rowsOf (suc n) w base l (suc i) d h =
-      rw (drop-drop w base l, wider i w, ← add-assoc base w (i * w)) (getD-rowsOf n w (base + w) l i d (le-of-suc-le-suc h))
+  getD-rowsOf zero w l i d h = absurd (not-suc-le-zero h)
+  getD-rowsOf (suc n) w l zero d h = rw (zero-mul w)
+  getD-rowsOf (suc n) w l (suc i) d h = getD-rowsOf n w (drop w l) i d (le-of-suc-le-suc h) ∙ rw (drop-drop (i * w) w l, wider i w)
 
   -- only the words of the rows are read
   pub rowsOf-cut : (n w : ℕ) (l : List ℕ) → ((q : List ℕ) → g (take w q) ≡ g q) → rowsOf g n w (take (n * w) l) ≡ rowsOf g n w l

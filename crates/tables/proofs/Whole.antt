@@ -5,17 +5,19 @@ use Prim.Native.Nat.{ℕ, zero, suc, _+_, _*_, _≤_}
 use native.Mathlib.Omega.{arith}
 use lib.ListN.{length, take, drop, length-drop}
 use lib.Seq.{length-take-le}
+use Rattle.tables.specs.declared.Layout.{Layout}
 use Rattle.tables.specs.declared.Client.{Client}
 use Rattle.tables.specs.declared.Directory.{Directory}
 use Rattle.tables.specs.declared.Entry.{Entry}
 use Rattle.tables.specs.declared.Message.{Message}
-use Rattle.tables.specs.Rows.{row, withRow}
-use Rattle.tables.specs.Tables.{Page, Replica, Machine, noPage, noClient, noEntry, noReplica, noMessage, clientAt, replicaAt, slotAt, withClient, withDirectory, withReplica, withSlots, withSlot}
+use Rattle.tables.specs.Rows.{row}
+use Rattle.tables.specs.Tables.{Page, Replica, Machine, noPage, noClient, noEntry, noReplica, noMessage, clientAt, replicaAt, slotAt, withClient, withDirectory, withReplica, withSlots}
+use Rattle.tables.specs.Layouts.{flagsAt, gapAt, entriesAt, slotsAt, extent}
 use Rattle.tables.specs.Inner.{withDown, withEntry}
-use Rattle.tables.specs.Machines.{clientOf, entryOf, messageOf, entriesOf, replicasOf, machineOf}
+use Rattle.tables.specs.Machines.{clientOf, entryOf, messageOf, clientsOf, slotsOf, entriesOf, replicasOf, machineOf}
 use Rattle.tables.proofs.All.{All, none, cons, all-replicate, all-row, all-withRow, length-withRow}
 use Rattle.tables.proofs.Table.{wider, rowsOf-all}
-use Rattle.tables.proofs.Read.{clients-many, directories-many, replicas-many, slots-many, entries-many}
+use Rattle.tables.proofs.Read.{clients-many, entries-many, its-room, its-replicas, its-slots}
 
 -- a page is 16 words
 abbrev pub Paged : Page → Type 0
@@ -26,16 +28,31 @@ pub record Stocked (r : Replica) : Type 0 where
   pub many : length (r .entries) ≡ 12
   pub pages : All (λ (e : Entry). Paged (e .page)) (r .entries)
 
-pub record Whole (M : Machine) : Type 0 where
+pub record Whole (lay : Layout) (M : Machine) : Type 0 where
   pub spare : length (M .spare) ≡ 9
   pub clients : length (M .clients) ≡ 8
-  pub directories : length (M .directories) ≡ 5
+  pub directories : length (M .directories) ≡ lay .directories
   pub gap : length (M .gap) ≡ 5
   pub replicas : length (M .replicas) ≡ 7
   pub slots : length (M .slots) ≡ 128
   pub client-pages : All (λ (x : Client). Paged (x .page)) (M .clients)
   pub stocks : All Stocked (M .replicas)
   pub slot-pages : All (λ (x : Message). Paged (x .page)) (M .slots)
+
+-- in the layout that has room for as many directories
+pub whole-in : {x lay : Layout} {M : Machine} → Whole x M → length (M .directories) ≡ lay .directories → Whole lay M
+whole-in z e =
+    record {
+      spare = z .spare;
+      clients = z .clients;
+      directories = e;
+      gap = z .gap;
+      replicas = z .replicas;
+      slots = z .slots;
+      client-pages = z .client-pages;
+      stocks = z .stocks;
+      slot-pages = z .slot-pages;
+    }
 
 -- ---- a machine that is read is whole
 
@@ -54,19 +71,19 @@ stocks-read (suc n) flags l h =
     let h′ : 240 + n * 240 ≤ length l = rw (wider n 240) at h in
     cons (stocked-read _ l (omega arith)) (stocks-read n (drop 1 flags) (drop 240 l) (rw length-drop (omega arith)))
 
-pub wholeOf : (m : List ℕ) → 4992 ≤ length m → Whole (machineOf m)
-unfolding machineOf clientOf messageOf
-wholeOf m h =
+pub wholeOf : (lay : Layout) (m : List ℕ) → extent lay ≤ length m → Whole lay (machineOf lay m)
+unfolding machineOf clientsOf slotsOf clientOf messageOf
+wholeOf lay m h =
     record {
       spare = length-take-le 9 (drop 7 m) (rw length-drop (omega arith));
-      clients = clients-many m;
-      directories = directories-many m;
-      gap = length-take-le 5 (drop 235 m) (rw length-drop (omega arith));
-      replicas = replicas-many m;
-      slots = slots-many m;
+      clients = clients-many (drop 16 m);
+      directories = its-room lay m;
+      gap = length-take-le 5 (drop (gapAt lay) m) (rw length-drop (omega arith));
+      replicas = its-replicas lay m;
+      slots = its-slots lay m;
       client-pages = rowsOf-all clientOf 8 24 (drop 16 m) (page-read 8) (rw length-drop (omega arith));
-      stocks = stocks-read 7 (drop 228 m) (drop 240 m) (rw length-drop (omega arith));
-      slot-pages = rowsOf-all messageOf 128 24 (drop 1920 m) (page-read 8) (rw length-drop (omega arith));
+      stocks = stocks-read 7 (drop (flagsAt lay) m) (drop (entriesAt lay) m) (rw length-drop (omega arith));
+      slot-pages = rowsOf-all messageOf 128 24 (drop (slotsAt lay) m) (page-read 8) (rw length-drop (omega arith));
     }
 
 -- ---- blank rows
@@ -89,7 +106,7 @@ blank-replica = record { many = refl; pages = all-replicate 12 noEntry blank-ent
 
 -- ---- rows of a whole machine, also where there is none of that number; and a row replaced
 
-module _ {M : Machine} (z : Whole M) where
+module _ {lay : Layout} {M : Machine} (z : Whole lay M) where
   pub client-paged : (c : ℕ) → Paged (clientAt M c .page)
   client-paged c = all-row noClient c blank-client (z .client-pages)
 
@@ -102,7 +119,7 @@ module _ {M : Machine} (z : Whole M) where
   pub entry-paged : (r e : ℕ) → Paged (row noEntry (replicaAt M r .entries) e .page)
   entry-paged r e = all-row noEntry e blank-entry (replica-stocked r .pages)
 
-  pub whole-client : (c : ℕ) (x : Client) → Paged (x .page) → Whole (withClient M c x)
+  pub whole-client : (c : ℕ) (x : Client) → Paged (x .page) → Whole lay (withClient M c x)
   whole-client c x p =
       record {
         spare = z .spare;
@@ -116,7 +133,7 @@ module _ {M : Machine} (z : Whole M) where
         slot-pages = z .slot-pages;
       }
 
-  pub whole-directory : (d : ℕ) (x : Directory) → Whole (withDirectory M d x)
+  pub whole-directory : (d : ℕ) (x : Directory) → Whole lay (withDirectory M d x)
   whole-directory d x =
       record {
         spare = z .spare;
@@ -130,7 +147,7 @@ module _ {M : Machine} (z : Whole M) where
         slot-pages = z .slot-pages;
       }
 
-  pub whole-replica : (r : ℕ) (x : Replica) → Stocked x → Whole (withReplica M r x)
+  pub whole-replica : (r : ℕ) (x : Replica) → Stocked x → Whole lay (withReplica M r x)
   whole-replica r x p =
       record {
         spare = z .spare;
@@ -144,16 +161,16 @@ module _ {M : Machine} (z : Whole M) where
         slot-pages = z .slot-pages;
       }
 
-  pub whole-down : (r x : ℕ) → Whole (withDown M r x)
+  pub whole-down : (r x : ℕ) → Whole lay (withDown M r x)
   whole-down r x =
       let s = replica-stocked r in whole-replica r _ (record { many = s .many; pages = s .pages })
 
-  pub whole-entry : (r e : ℕ) (x : Entry) → Paged (x .page) → Whole (withEntry M r e x)
+  pub whole-entry : (r e : ℕ) (x : Entry) → Paged (x .page) → Whole lay (withEntry M r e x)
   whole-entry r e x p =
       let s = replica-stocked r in
       whole-replica r _ (record { many = length-withRow (replicaAt M r .entries) e x ∙ s .many; pages = all-withRow e x p (s .pages) })
 
-  pub whole-slots : (ss : List Message) → length ss ≡ 128 → All (λ (x : Message). Paged (x .page)) ss → Whole (withSlots M ss)
+  pub whole-slots : (ss : List Message) → length ss ≡ 128 → All (λ (x : Message). Paged (x .page)) ss → Whole lay (withSlots M ss)
   whole-slots ss e ps =
       record {
         spare = z .spare;
@@ -166,6 +183,3 @@ module _ {M : Machine} (z : Whole M) where
         stocks = z .stocks;
         slot-pages = ps;
       }
-
-  pub whole-slot : (s : ℕ) (x : Message) → Paged (x .page) → Whole (withSlot M s x)
-  whole-slot s x p = whole-slots (withRow (M .slots) s x) (length-withRow (M .slots) s x ∙ z .slots) (all-withRow s x p (z .slot-pages))

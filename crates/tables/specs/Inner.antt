@@ -1,13 +1,20 @@
 -- What the inner functions ask and give, beside the tables. Nothing of the paper stands here.
 use mathlib.Core.Bool.{Bool}
 use mathlib.Core.List.{List, [], _∷_, _++_}
-use Prim.Native.Nat.{ℕ, suc, _+_}
+use Prim.Native.Nat.{ℕ, suc, _+_, _≤_}
 use lib.ListN.{length, take, drop}
 use Rattle.sets.specs.Plain.{if_then_else_}
+use Rattle.tables.specs.declared.Layout.{Layout}
 use Rattle.tables.specs.declared.Entry.{Entry}
+use Rattle.tables.specs.Layouts.{extent}
 use Rattle.tables.specs.Rows.{rowsWords, withRow}
 use Rattle.tables.specs.Tables.{Machine, replicaAt, withReplica}
 use Rattle.tables.specs.Words.{entryWords}
+
+-- a buffer that is long enough for the layout
+pub record Fits (lay : Layout) (m : List ℕ) : Type 0 where
+  pub few : lay .directories ≤ 16
+  pub long : extent lay ≤ length m
 
 -- the words l with the row r written over them from place `at` on
 unfoldable pub put : List ℕ → ℕ → List ℕ → List ℕ

@@ -2,6 +2,7 @@
 pub mod Rows
 pub mod Tables
 pub mod Words
+pub mod Layouts
 pub mod Machines
 pub mod Kinds
 pub mod Phases

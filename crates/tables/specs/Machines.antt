@@ -1,12 +1,14 @@
--- The machine of words, row by row. Of a buffer of 4,992 words or more it is the one machine that has these words: theorems `words-back` and `machine-back` (proofs/Round).
+-- The machine of words, row by row. Of a buffer that is long enough for the layout it is the one machine that has these words: theorems `words-back` and `machine-back` (proofs/Round).
 use Rattle.sets.specs.Plain.{ℕ, zero, suc, List, [], _∷_, getD, take, drop}
 use Rattle.sets.specs.Tags.{tag}
+use Rattle.tables.specs.declared.Layout.{Layout}
 use Rattle.tables.specs.declared.Conf.{Conf}
 use Rattle.tables.specs.declared.Client.{Client}
 use Rattle.tables.specs.declared.Directory.{Directory}
 use Rattle.tables.specs.declared.Entry.{Entry}
 use Rattle.tables.specs.declared.Message.{Message}
 use Rattle.tables.specs.Tables.{Replica, Machine}
+use Rattle.tables.specs.Layouts.{flagsAt, gapAt, entriesAt, slotsAt}
 
 -- ---- the row that words begin with
 
@@ -59,6 +61,16 @@ unfoldable pub rowsOf : {A : Type 0} → (List ℕ → A) → ℕ → ℕ → Li
 rowsOf g zero w l = []
 rowsOf g (suc n) w l = g l ∷ rowsOf g n w (drop w l)
 
+-- 8 clients of 24, n directories of 4, 128 slots of 24
+unfoldable pub clientsOf : List ℕ → List Client
+clientsOf l = rowsOf clientOf 8 24 l
+
+unfoldable pub directoriesOf : ℕ → List ℕ → List Directory
+directoriesOf n l = rowsOf directoryOf n 4 l
+
+unfoldable pub slotsOf : List ℕ → List Message
+slotsOf l = rowsOf messageOf 128 24 l
+
 -- 12 entries of 20
 unfoldable pub entriesOf : List ℕ → List Entry
 entriesOf l = rowsOf entryOf 12 20 l
@@ -70,14 +82,14 @@ replicasOf (suc n) flags l = record { down = getD flags 0 0; entries = entriesOf
 
 -- ---- the whole
 
-unfoldable pub machineOf : List ℕ → Machine
-machineOf m =
+unfoldable pub machineOf : Layout → List ℕ → Machine
+machineOf lay m =
     record {
       conf = confOf m;
       spare = take 9 (drop 7 m);
-      clients = rowsOf clientOf 8 24 (drop 16 m);
-      directories = rowsOf directoryOf 5 4 (drop 208 m);
-      gap = take 5 (drop 235 m);
-      replicas = replicasOf 7 (drop 228 m) (drop 240 m);
-      slots = rowsOf messageOf 128 24 (drop 1920 m);
+      clients = clientsOf (drop 16 m);
+      directories = directoriesOf (lay .directories) (drop 208 m);
+      gap = take 5 (drop (gapAt lay) m);
+      replicas = replicasOf 7 (drop (flagsAt lay) m) (drop (entriesAt lay) m);
+      slots = slotsOf (drop (slotsAt lay) m);
     }

@@ -2,8 +2,19 @@
 use sets::Tag;
 
 pub mod rows; // rows.rt: a row read from, or written to, a part that begins at its first word
-pub mod places; // places.rt: the row of a party, an entry or a slot, in the whole buffer
-pub mod search; // search.rt: empty slots and free entries
+pub mod places; // places.rt: where each table stands in the whole buffer, and the rows of the parties
+pub mod search; // search.rt: free entries and tags
+
+// How a machine lies in the buffer: the directory rows that it has room for. All later words move by them.
+pub struct Layout {
+    pub directories: usize,
+}
+
+// 4,992 words.
+pub const BASE: Layout = Layout { directories: 5 };
+
+// 5,036 words.
+pub const WIDE: Layout = Layout { directories: 16 };
 
 // The seven numbers.
 pub struct Conf {

@@ -1,94 +1,102 @@
-// The rows of the machine in the whole buffer, each at its place. Parties, entries and slots count from 0 here, and from 1 in the machine.
+// Where the tables stand in the whole buffer, and the rows of clients, directories and replicas at their places. Parties and entries count from 0 here, and from 1 in the machine.
 ghost use mathlib.Core.Path.{_≡_};
-ghost use Prim.Native.Nat.{suc, _≤_, _<_};
-ghost use lib.ListN.{length, drop};
-ghost use Rattle.tables.specs.Rows.{row};
-ghost use Rattle.tables.specs.Tables.{noEntry, clientAt, directoryAt, replicaAt, slotAt, withClient, withDirectory, withSlot};
-ghost use Rattle.tables.specs.Inner.{withDown, withEntry};
+ghost use Prim.Native.Nat.{suc, _+_, _*_, _≤_, _<_};
+ghost use lib.ListN.{drop};
+ghost use Rattle.tables.specs.Tables.{clientAt, directoryAt, replicaAt, withClient, withDirectory};
+ghost use Rattle.tables.specs.Layouts.{flagsAt, entriesAt, slotsAt, extent};
+ghost use Rattle.tables.specs.Inner.{Fits, withDown, withEntry};
 ghost use Rattle.tables.specs.Words.{words};
 ghost use Rattle.tables.specs.Machines.{machineOf};
 use crate::Client;
 use crate::Directory;
 use crate::Entry;
-use crate::Message;
+use crate::Layout;
 use crate::rows;
 
-pub fn client(m: &[u32], i: usize) -> Client
-    requires { ⌜ (4992 ≤ length (now m)) × (i < 8) ⌝ }
-    ensures { λ r. ⌜ r ≡ clientAt (machineOf (now (m .entry))) (suc i) ⌝ }
+// How many words a machine has.
+pub fn extent(lay: Layout) -> usize
+    requires { ⌜ lay .directories ≤ 16 ⌝ }
+    ensures { λ r. ⌜ r ≡ extent lay ⌝ }
+{
+    4972 + lay.directories * 4
+}
+
+// Where the down flags of the replicas begin.
+pub fn flags_at(lay: Layout) -> usize
+    requires { ⌜ lay .directories ≤ 16 ⌝ }
+    ensures { λ r. ⌜ r ≡ flagsAt lay ⌝ }
+{
+    208 + lay.directories * 4
+}
+
+// Where the entries of replica i begin.
+pub fn entries_at(lay: Layout, i: usize) -> usize
+    requires { ⌜ (lay .directories ≤ 16) × (i < 7) ⌝ }
+    ensures { λ r. ⌜ r ≡ entriesAt lay + i * 240 ⌝ }
+{
+    220 + lay.directories * 4 + i * 240
+}
+
+// Where the slots begin.
+pub fn slots_at(lay: Layout) -> usize
+    requires { ⌜ lay .directories ≤ 16 ⌝ }
+    ensures { λ r. ⌜ r ≡ slotsAt lay ⌝ }
+{
+    1900 + lay.directories * 4
+}
+
+pub fn client(lay: Layout, m: &[u32], i: usize) -> Client
+    requires { ⌜ Fits lay (now m) × (i < 8) ⌝ }
+    ensures { λ r. ⌜ r ≡ clientAt (machineOf lay (now (m .entry))) (suc i) ⌝ }
 {
     let at = 16 + i * 24;
     rows::client_at(&m[at..])
 }
 
-pub fn set_client(m: &mut [u32], i: usize, x: Client)
-    requires { ⌜ (4992 ≤ length (now m)) × (i < 8) ⌝ }
-    ensures { λ _. ⌜ now (m .exit) ≡ words (withClient (machineOf (now (m .entry))) (suc i) x) (drop 4992 (now (m .entry))) ⌝ }
+pub fn set_client(lay: Layout, m: &mut [u32], i: usize, x: Client)
+    requires { ⌜ Fits lay (now m) × (i < 8) ⌝ }
+    ensures { λ _. ⌜ now (m .exit) ≡ words (withClient (machineOf lay (now (m .entry))) (suc i) x) (drop (extent lay) (now (m .entry))) ⌝ }
 {
     let at = 16 + i * 24;
     rows::put_client(&mut m[at..], x);
 }
 
-pub fn directory(m: &[u32], i: usize) -> Directory
-    requires { ⌜ (4992 ≤ length (now m)) × (i < 5) ⌝ }
-    ensures { λ r. ⌜ r ≡ directoryAt (machineOf (now (m .entry))) (suc i) ⌝ }
+pub fn directory(lay: Layout, m: &[u32], i: usize) -> Directory
+    requires { ⌜ Fits lay (now m) × (i < lay .directories) ⌝ }
+    ensures { λ r. ⌜ r ≡ directoryAt (machineOf lay (now (m .entry))) (suc i) ⌝ }
 {
     let at = 208 + i * 4;
     rows::directory_at(&m[at..])
 }
 
-pub fn set_directory(m: &mut [u32], i: usize, x: Directory)
-    requires { ⌜ (4992 ≤ length (now m)) × (i < 5) ⌝ }
-    ensures { λ _. ⌜ now (m .exit) ≡ words (withDirectory (machineOf (now (m .entry))) (suc i) x) (drop 4992 (now (m .entry))) ⌝ }
+pub fn set_directory(lay: Layout, m: &mut [u32], i: usize, x: Directory)
+    requires { ⌜ Fits lay (now m) × (i < lay .directories) ⌝ }
+    ensures { λ _. ⌜ now (m .exit) ≡ words (withDirectory (machineOf lay (now (m .entry))) (suc i) x) (drop (extent lay) (now (m .entry))) ⌝ }
 {
     let at = 208 + i * 4;
     rows::put_directory(&mut m[at..], x);
 }
 
 // A replica's down flag.
-pub fn down(m: &[u32], i: usize) -> u32
-    requires { ⌜ (4992 ≤ length (now m)) × (i < 7) ⌝ }
-    ensures { λ r. ⌜ r ≡ replicaAt (machineOf (now (m .entry))) (suc i) .down ⌝ }
+pub fn down(lay: Layout, m: &[u32], i: usize) -> u32
+    requires { ⌜ Fits lay (now m) × (i < 7) ⌝ }
+    ensures { λ r. ⌜ r ≡ replicaAt (machineOf lay (now (m .entry))) (suc i) .down ⌝ }
 {
-    m[228 + i]
+    m[flags_at(lay) + i]
 }
 
-pub fn set_down(m: &mut [u32], i: usize, x: u32)
-    requires { ⌜ (4992 ≤ length (now m)) × (i < 7) ⌝ }
-    ensures { λ _. ⌜ now (m .exit) ≡ words (withDown (machineOf (now (m .entry))) (suc i) x) (drop 4992 (now (m .entry))) ⌝ }
+pub fn set_down(lay: Layout, m: &mut [u32], i: usize, x: u32)
+    requires { ⌜ Fits lay (now m) × (i < 7) ⌝ }
+    ensures { λ _. ⌜ now (m .exit) ≡ words (withDown (machineOf lay (now (m .entry))) (suc i) x) (drop (extent lay) (now (m .entry))) ⌝ }
 {
-    m[228 + i] = x;
+    m[flags_at(lay) + i] = x;
 }
 
 // Entry e of replica i.
-pub fn entry(m: &[u32], i: usize, e: usize) -> Entry
-    requires { ⌜ (4992 ≤ length (now m)) × (i < 7) × (e < 12) ⌝ }
-    ensures { λ r. ⌜ r ≡ row noEntry (replicaAt (machineOf (now (m .entry))) (suc i) .entries) (suc e) ⌝ }
+pub fn set_entry(lay: Layout, m: &mut [u32], i: usize, e: usize, x: Entry)
+    requires { ⌜ Fits lay (now m) × (i < 7) × (e < 12) ⌝ }
+    ensures { λ _. ⌜ now (m .exit) ≡ words (withEntry (machineOf lay (now (m .entry))) (suc i) (suc e) x) (drop (extent lay) (now (m .entry))) ⌝ }
 {
-    let at = 240 + i * 240 + e * 20;
-    rows::entry_at(&m[at..])
-}
-
-pub fn set_entry(m: &mut [u32], i: usize, e: usize, x: Entry)
-    requires { ⌜ (4992 ≤ length (now m)) × (i < 7) × (e < 12) ⌝ }
-    ensures { λ _. ⌜ now (m .exit) ≡ words (withEntry (machineOf (now (m .entry))) (suc i) (suc e) x) (drop 4992 (now (m .entry))) ⌝ }
-{
-    let at = 240 + i * 240 + e * 20;
+    let at = entries_at(lay, i) + e * 20;
     rows::put_entry(&mut m[at..], x);
-}
-
-pub fn slot(m: &[u32], i: usize) -> Message
-    requires { ⌜ (4992 ≤ length (now m)) × (i < 128) ⌝ }
-    ensures { λ r. ⌜ r ≡ slotAt (machineOf (now (m .entry))) (suc i) ⌝ }
-{
-    let at = 1920 + i * 24;
-    rows::message_at(&m[at..])
-}
-
-pub fn set_slot(m: &mut [u32], i: usize, x: Message)
-    requires { ⌜ (4992 ≤ length (now m)) × (i < 128) ⌝ }
-    ensures { λ _. ⌜ now (m .exit) ≡ words (withSlot (machineOf (now (m .entry))) (suc i) x) (drop 4992 (now (m .entry))) ⌝ }
-{
-    let at = 1920 + i * 24;
-    rows::put_message(&mut m[at..], x);
 }

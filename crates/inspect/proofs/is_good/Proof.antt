@@ -1,38 +1,57 @@
 use mathlib.Core.Bool.{Bool, true, false, not, _&&_}
 use mathlib.Core.List.{List}
 use mathlib.Core.Path.{_≡_, sym, _∙_}
-use Prim.Native.Nat.{ℕ}
+use Prim.Native.Nat.{ℕ, _+_, _*_, _-_}
+use native.Mathlib.Omega.{arith}
+use borrow.Author.Needs.{needs}
 use borrow.Author.Tests.{not-true, not-false}
-use lib.ListN.{take, drop}
+use lib.ListN.{length, take, drop}
+use Rattle.tables.specs.declared.Layout.{Layout}
 use Rattle.tables.specs.declared.Conf.{Conf}
-use Rattle.tables.specs.Machines.{confOf, machineOf}
+use Rattle.tables.specs.Layouts.{flagsAt, gapAt, entriesAt, slotsAt}
+use Rattle.tables.specs.Inner.{Fits}
+use Rattle.tables.specs.Machines.{confOf, clientsOf, directoriesOf, replicasOf, slotsOf, machineOf}
+use Rattle.tables.proofs.Parts.{rest-all}
+use Rattle.tables.proofs.Read.{its-room}
 use Rattle.inspect.specs.Good.{zeros, eachRow, goodNumbers, clientRow, directoryRow, replicaRow, slotRow, goodMachine, good}
 use Rattle.inspect.specs.Inner.{Few}
 use Rattle.inspect.proofs.Facts.{few}
-use borrow.Author.Needs.{needs}
 use Rattle.inspect.proofs.is_good.Statement.{statement}
 use Rattle.inspect.proofs.is_good.Tie as tie
 
-module _ (m : List ℕ) (k : Conf) (at : k ≡ confOf m) (b : Bool) (n : b ≡ goodNumbers k) where
-  bad : not b ≡ true → false ≡ good m
-  unfolding good goodMachine machineOf
-  bad h = rw (← at, ← n, not-true b h)
+-- the words from a place on, as they are lent
+abbrev rest : List ℕ → ℕ → List ℕ
+rest m at = take (length m - at) (drop at m)
 
-  few-parties : not b ≡ false → Few k
-  few-parties h = few k (sym n ∙ not-false b h)
-
-  all-good : (z c d g r s : Bool) → not b ≡ false → z ≡ zeros (take 9 (drop 7 m)) → c ≡ eachRow (clientRow k) 1 (machineOf m .clients)
-      → d ≡ eachRow (directoryRow k) 1 (machineOf m .directories) → g ≡ zeros (take 5 (drop 235 m))
-      → r ≡ eachRow (replicaRow k) 1 (machineOf m .replicas) → s ≡ eachRow (slotRow k) 1 (machineOf m .slots)
-      → z && c && d && g && r && s ≡ good m
+module _ (lay : Layout) (m : List ℕ) (k : Conf) (at : k ≡ confOf m) (b : Bool) (n : b ≡ goodNumbers (lay .directories) k) where
+  bad : not b ≡ true → false ≡ good lay m
   unfolding good goodMachine machineOf
-  all-good z c d g r s h p q e i j l = rw (← at, ← n, not-false b h, p, q, e, i, j, l)
+  bad h = rw (its-room lay m, ← at, ← n, not-true b h)
+
+  few-parties : Fits lay m → not b ≡ false → Few k
+  few-parties l h = few (lay .directories) k (sym n ∙ not-false b h) (omega arith)
+
+  all-good : (flags entries slots : ℕ) → flags ≡ flagsAt lay → entries ≡ entriesAt lay + 0 * 240 → slots ≡ slotsAt lay
+      → (z c d g r s : Bool) → not b ≡ false → z ≡ zeros (take 9 (drop 7 m)) → c ≡ eachRow (clientRow k) 1 (clientsOf (rest m 16))
+      → d ≡ eachRow (directoryRow k) 1 (directoriesOf (lay .directories) (rest m 208)) → g ≡ zeros (take (entries - (flags + 7)) (drop (flags + 7) m))
+      → r ≡ eachRow (replicaRow k) 1 (replicasOf 7 (rest m flags) (rest m entries)) → s ≡ eachRow (slotRow k) 1 (slotsOf (rest m slots))
+      → z && c && d && g && r && s ≡ good lay m
+  unfolding good goodMachine machineOf
+  all-good flags entries slots fl en sl z c d g r s h p q e i j l =
+      let en′ : entries ≡ entriesAt lay = omega arith in
+      let gap : flags + 7 ≡ gapAt lay = omega arith in
+      let five : entries - gapAt lay ≡ 5 = omega arith in
+      rw (its-room lay m, ← at, ← n, not-false b h, p, q, e, i, j, l, gap, five, rest-all m 16, rest-all m 208, rest-all m flags, rest-all m entries, rest-all m slots, fl, en′, sl)
 
 pub is-good-spec : {M : Type 1} → statement M
 is-good-spec =
     tie.close
-    (tie.spec (λ c κs. search needs) (λ c κs. search needs) (λ c. search bad) (λ c. search needs)
-    (λ c. search needs) (λ c. search needs) (λ c κs. search needs)
-    (λ c κs. (search needs, search few-parties)) (λ c κs. (search needs, search few-parties))
-    (λ c. search needs) (λ c. search needs) (λ c. search needs) (λ c κs. search needs) (λ c κs. search needs)
-    (λ c κs. (search needs, search few-parties)) (λ c. search all-good))
+    (tie.spec (λ c κs. search needs) (λ c. search needs) (λ c κs. search needs) (λ c. search bad) (λ c κs. search needs)
+    (λ c. search needs) (λ c κs. search needs) (λ c κs. search needs) (λ c. search needs) (λ c. search needs)
+    (λ c. search needs) (λ c κs. search needs) (λ c. search needs) (λ c. search needs) (λ c. search needs)
+    (λ c κs. (search needs, search few-parties)) (λ c. search needs) (λ c. search needs) (λ c. search needs)
+    (λ c κs. (search needs, search needs, search few-parties)) (λ c. search needs) (λ c. search needs) (λ c. search needs)
+    (λ c. search needs) (λ c κs. search needs) (λ c. search needs) (λ c. search needs) (λ c. search needs) (λ c. search needs)
+    (λ c. search needs) (λ c. search needs) (λ c. search needs) (λ c. search needs) (λ c κs. search needs) (λ c. search needs)
+    (λ c. search needs) (λ c. search needs) (λ c. search needs) (λ c κs. (search needs, search few-parties))
+    (λ c. search all-good))

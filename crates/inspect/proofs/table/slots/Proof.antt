@@ -7,7 +7,7 @@ use borrow.Author.Tests.{not-true, not-false}
 use lib.ListN.{take, drop}
 use Rattle.tables.specs.declared.Conf.{Conf}
 use Rattle.tables.specs.Tables.{noMessage}
-use Rattle.tables.specs.Machines.{messageOf, machineOf}
+use Rattle.tables.specs.Machines.{messageOf, slotsOf}
 use Rattle.tables.proofs.Read.{slot-at, slots-many, message-cut}
 use Rattle.inspect.specs.Good.{eachRow, slotRow}
 use Rattle.inspect.specs.Inner.{kindTable}
@@ -16,35 +16,35 @@ use Rattle.inspect.proofs.table.slots.Statement.{statement}
 use Rattle.inspect.proofs.table.slots.Tie as tie
 
 -- all slots before i are good, by the numbers that the table t is made from
-record Good (m : List ℕ) (t : List (List ℕ)) (i : ℕ) : Type 0 where
-  by : (k : Conf) → t ≡ kindTable k → Passed (slotRow k) (machineOf m .slots) i true
+record Good (l : List ℕ) (t : List (List ℕ)) (i : ℕ) : Type 0 where
+  by : (k : Conf) → t ≡ kindTable k → Passed (slotRow k) (slotsOf l) i true
 
-none : (m : List ℕ) (t : List (List ℕ)) → Good m t 0
-none m t = record { by = λ k of. refl }
+none : (l : List ℕ) (t : List (List ℕ)) → Good l t 0
+none l t = record { by = λ k of. refl }
 
-module _ (m : List ℕ) (t : List (List ℕ)) (i : ℕ) (g : Good m t i) where
+module _ (l : List ℕ) (t : List (List ℕ)) (i : ℕ) (g : Good l t i) where
   module _ (h : i < 128) (x : Bool)
-      (says : (k : Conf) → t ≡ kindTable k → x ≡ slotRow k 0 (messageOf (take (1920 + i * 24 + 24 - (1920 + i * 24)) (drop (1920 + i * 24) m)))) where
-    turn : (k : Conf) → t ≡ kindTable k → Passed (slotRow k) (machineOf m .slots) (i + 1) x
+      (says : (k : Conf) → t ≡ kindTable k → x ≡ slotRow k 0 (messageOf (take (i * 24 + 24 - i * 24) (drop (i * 24) l)))) where
+    turn : (k : Conf) → t ≡ kindTable k → Passed (slotRow k) (slotsOf l) (i + 1) x
     unfolding slotRow
     turn k of =
-        table-more (slotRow k) messageOf noMessage (machineOf m .slots) m 128 24 (λ i. 1920 + i * 24) (slots-many m) (slot-at m) message-cut
+        table-more (slotRow k) messageOf noMessage (slotsOf l) l 128 24 (λ i. i * 24) (slots-many l) (slot-at l) message-cut
         i true (g .by k of) x h (says k of)
 
-    more : not x ≡ false → Good m t (i + 1)
+    more : not x ≡ false → Good l t (i + 1)
     more e = record { by = λ k of. rw (not-false x e) at (turn k of) }
 
-    bad : (k : Conf) → t ≡ kindTable k → not x ≡ true → false ≡ eachRow (slotRow k) 1 (machineOf m .slots)
+    bad : (k : Conf) → t ≡ kindTable k → not x ≡ true → false ≡ eachRow (slotRow k) 1 (slotsOf l)
     bad k of e = rw (not-true x e) at (turn k of)
 
-  all : (k : Conf) → t ≡ kindTable k → 128 ≤ i → true ≡ eachRow (slotRow k) 1 (machineOf m .slots)
-  all k of h = each-end (slotRow k) (machineOf m .slots) i true (g .by k of) 128 (slots-many m) h
+  all : (k : Conf) → t ≡ kindTable k → 128 ≤ i → true ≡ eachRow (slotRow k) 1 (slotsOf l)
+  all k of h = each-end (slotRow k) (slotsOf l) i true (g .by k of) 128 (slots-many l) h
 
 abbrev Inv-loop : tie.InvT-loop
-Inv-loop m t i₀ i = (i ≤ 128) × Good m t i
+Inv-loop l t i₀ i = (i ≤ 128) × Good l t i
 
 abbrev μ-loop : tie.MeasureT-loop
-μ-loop m t i₀ i = 128 - i
+μ-loop l t i₀ i = 128 - i
 
 -- behind the last slot
 ends : tie.Need-returns-2 Inv-loop μ-loop
@@ -55,5 +55,5 @@ slots-spec =
     tie.close
     (tie.spec Inv-loop μ-loop (λ c κs. search needs) (λ c. (search needs, search none)) (λ c. search needs) (λ c. search needs)
     (λ c. search needs) (λ c. search needs) (λ c. search needs) (λ c. search needs) (λ c. search needs)
-    (λ c. search needs) (λ c κs. (search needs, search needs)) (λ c. search (bad, c .before .slot .ensures)) (λ c. search needs) (λ c. search needs)
+    (λ c κs. (search needs, search needs)) (λ c. search (bad, c .before .slot .ensures)) (λ c. search needs) (λ c. search needs)
     (λ c. (search needs, search (more, c .before .slot .ensures))) ends)

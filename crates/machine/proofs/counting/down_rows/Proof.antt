@@ -11,23 +11,17 @@ use Rattle.machine.proofs.counting.down_rows.Statement.{statement}
 use Rattle.machine.proofs.counting.down_rows.Tie as tie
 
 abbrev Inv-loop : tie.InvT-loop
-Inv-loop m at w n d₀ i₀ d i =
-    (i ≤ n) × (d ≤ i) × (d + count isOne (drop i (firstWords m at w n)) ≡ count isOne (firstWords m at w n))
+Inv-loop l w n d₀ i₀ d i =
+    (i ≤ n) × (d ≤ i) × (d + count isOne (drop i (firstWords l w n)) ≡ count isOne (firstWords l w n))
 
 abbrev μ-loop : tie.MeasureT-loop
-μ-loop m at w n d₀ i₀ d i = n - i
+μ-loop l w n d₀ i₀ d i = n - i
 
-inside : (c : tie.In-loop Inv-loop μ-loop) → c .before .before .args .at + c .before .loop .i * c .before .before .args .w < length (c .before .before .args .m .now)
+inside : (c : tie.In-loop Inv-loop μ-loop) → c .before .loop .i * c .before .before .args .w < length (c .before .before .args .l .now)
 inside c = search row-in
 
 mul-if1 : tie.Need-mul-if1 Inv-loop μ-loop
 mul-if1 c = omega (arith, inside c)
-
-add-if1 : tie.Need-add-if1 Inv-loop μ-loop
-add-if1 c = omega (arith, inside c)
-
-mul-if1-2 : tie.Need-mul-if1-2 Inv-loop μ-loop
-mul-if1-2 c = omega (arith, inside c)
 
 shared-slice-read-if1 : tie.Need-shared-slice-read-if1 Inv-loop μ-loop
 shared-slice-read-if1 c = search row-in
@@ -45,5 +39,5 @@ returns c = search downs-all
 pub down-rows-spec : {M : Type 1} → statement M
 down-rows-spec =
     tie.close
-    (tie.spec Inv-loop μ-loop (λ c. search needs) mul-if1 add-if1 mul-if1-2 shared-slice-read-if1
+    (tie.spec Inv-loop μ-loop (λ c. search needs) mul-if1 (λ c. omega (arith, inside c)) shared-slice-read-if1
     (λ c. search needs) (λ c. search needs) (λ c. search needs) loop-again returns)

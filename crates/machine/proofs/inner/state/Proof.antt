@@ -1,30 +1,38 @@
 use mathlib.Core.Bool.{Bool, true, false, not, _||_}
 use mathlib.Core.List.{List}
 use mathlib.Core.Path.{_≡_}
-use Prim.Native.Nat.{ℕ}
+use Prim.Native.Nat.{ℕ, _≤_}
+use borrow.Author.Needs.{needs}
 use lib.Dec.{ltb, eqb}
 use lib.ListN.{length}
+use Rattle.tables.specs.declared.Layout.{Layout}
+use Rattle.tables.specs.Layouts.{extent}
+use Rattle.tables.specs.Inner.{Fits}
 use Rattle.inspect.specs.Good.{good}
 use Rattle.machine.specs.Inner.{stateOf}
 use Rattle.machine.proofs.Steps.{long-enough}
 use Rattle.machine.proofs.inner.state.Statement.{statement}
 use Rattle.machine.proofs.inner.state.Tie as tie
 
-module _ (m : List ℕ) (n : ℕ) where
-  wrong : ltb (length m) 4992 || not (eqb n 16) ≡ true → 16 ≡ stateOf m n
+module _ (lay : Layout) (m : List ℕ) (n end : ℕ) (whole : end ≡ extent lay) where
+  wrong : ltb (length m) end || not (eqb n 16) ≡ true → 16 ≡ stateOf lay m n
   unfolding stateOf
-  wrong h = rw h
+  wrong h = rw (← whole, h)
 
-  module _ (h : ltb (length m) 4992 || not (eqb n 16) ≡ false) (b : Bool) (e : b ≡ good m) where
-    bad : not b ≡ true → 17 ≡ stateOf m n
-    unfolding stateOf
-    bad z = rw (h, ← e, z)
+  module _ (h : ltb (length m) end || not (eqb n 16) ≡ false) where
+    long : lay .directories ≤ 16 → Fits lay m
+    long w = long-enough lay m n end whole h w
 
-    fine : not b ≡ false → 0 ≡ stateOf m n
-    unfolding stateOf
-    fine z = rw (h, ← e, z)
+    module _ (b : Bool) (e : b ≡ good lay m) where
+      bad : not b ≡ true → 17 ≡ stateOf lay m n
+      unfolding stateOf
+      bad z = rw (← whole, h, ← e, z)
+
+      fine : not b ≡ false → 0 ≡ stateOf lay m n
+      unfolding stateOf
+      fine z = rw (← whole, h, ← e, z)
 
 pub state-spec : {M : Type 1} → statement M
 state-spec =
     tie.close
-    (tie.spec (λ c. search wrong) (λ c κs. search long-enough) (λ c. search bad) (λ c. search fine))
+    (tie.spec (λ c κs. search needs) (λ c. search wrong) (λ c κs. search long) (λ c. search bad) (λ c. search fine))

@@ -2,6 +2,7 @@ use mathlib.Core.Path.{_≡_}
 use mathlib.Core.List.{List, []}
 use Prim.Native.Nat.{ℕ}
 use borrow.Author.Needs.{needs}
+use Rattle.tables.specs.declared.Layout.{Layout}
 use Rattle.tables.specs.Machines.{machineOf}
 use Rattle.rules.specs.declared.Answer.{Answer}
 use Rattle.machine.specs.Calls.{crash}
@@ -11,8 +12,8 @@ use Rattle.machine.proofs.Crashed.{crash-nobody}
 use Rattle.machine.proofs.others.crash_good.Statement.{statement}
 use Rattle.machine.proofs.others.crash_good.Tie as tie
 
-of-kind : (m l : List ℕ) (id kind p : ℕ) (a : Answer) → kind ≡ p → Took (step (crash p id) (machineOf m)) a [] m l → Took (step (crash kind id) (machineOf m)) a [] m l
-of-kind m l id kind p a e t = rw e t
+of-kind : (lay : Layout) (m l : List ℕ) (id kind p : ℕ) (a : Answer) → kind ≡ p → Took lay (step (crash p id) (machineOf lay m)) a [] m l → Took lay (step (crash kind id) (machineOf lay m)) a [] m l
+of-kind lay m l id kind p a e t = rw e t
 
 pub crash-good-spec : {M : Type 1} → statement M
 crash-good-spec =

@@ -7,8 +7,10 @@ use borrow.Author.Needs.{needs}
 use borrow.Author.Tests.{not-false, eq-eqb, ne-eqb}
 use lib.Dec.{leb, eqb}
 use lib.ListN.{drop}
+use Rattle.tables.specs.Layouts.{extent}
 use Rattle.sets.specs.Sets.{size}
 use Rattle.sets.proofs.Laws.{only-lt}
+use Rattle.tables.specs.declared.Layout.{Layout}
 use Rattle.tables.specs.declared.Conf.{Conf}
 use Rattle.tables.specs.declared.Party.the-variants.{AReplica}
 use Rattle.tables.specs.Tables.{replicaAt, withSlots}
@@ -17,11 +19,11 @@ use Rattle.tables.specs.Machines.{confOf, machineOf}
 use Rattle.inspect.specs.Good.{between, isParty}
 use Rattle.inspect.proofs.Tests.{le-by}
 use Rattle.rules.specs.declared.Answer.{Answer}
-use Rattle.rules.specs.declared.Post.{Post}
+use Rattle.mail.specs.declared.Post.{Post}
 use Rattle.rules.specs.Answers.{coded}
-use Rattle.rules.specs.Posts.{messagesOf}
+use Rattle.mail.specs.Posts.{messagesOf}
 use Rattle.rules.specs.Replica.{gossipPost}
-use Rattle.machine.specs.Slots.{placed, emptySlots}
+use Rattle.mail.specs.Slots.{placed, emptySlots}
 use Rattle.machine.specs.Effects.{nothing}
 use Rattle.machine.specs.Calls.{gossip, gossipEffect}
 use Rattle.machine.specs.Refusals.{refusal}
@@ -56,23 +58,23 @@ module _ (from to n : ℕ) (b : Bool) (e : b ≡ twoOf n from to) (h : not b ≡
   high-to : to ≤ n
   high-to = le-by to n (twoOf n from to) (λ f. simp (f, and-false)) both
 
-module _ (m : List ℕ) (g : Ready m) (from to : ℕ) (k : Conf) (at : k ≡ confOf m) (b : Bool) (e : b ≡ twoOf (k .replicas) from to) where
-  test-is : not (isParty (machineOf m .conf) AReplica from) || not (isParty (machineOf m .conf) AReplica to) || eqb from to ≡ not b
+module _ (lay : Layout) (m : List ℕ) (g : Ready lay m) (from to : ℕ) (k : Conf) (at : k ≡ confOf m) (b : Bool) (e : b ≡ twoOf (k .replicas) from to) where
+  test-is : not (isParty (machineOf lay m .conf) AReplica from) || not (isParty (machineOf lay m .conf) AReplica to) || eqb from to ≡ not b
   unfolding machineOf
   test-is = rw (← at, not-all (between 1 (k .replicas) from) (between 1 (k .replicas) to) (eqb from to), e)
 
-  out : (a : Answer) → not b ≡ true → a ≡ coded 18 → Took (step (gossip from to) (machineOf m)) a [] m m
+  out : (a : Answer) → not b ≡ true → a ≡ coded 18 → Took lay (step (gossip from to) (machineOf lay m)) a [] m m
   unfolding refusal
-  out a h q = took-refused (gossip from to) m 18 a (g .long) (λ z. omega arith) (rw (test-is, h)) q
+  out a h q = took-refused lay (gossip from to) m 18 a (g .long) (λ z. omega arith) (rw (test-is, h)) q
 
   module _ (h : not b ≡ false) where
     seven : k .replicas ≤ 7
-    seven = numbers-of m (g .fine) k at .few-replicas
+    seven = numbers-of lay m (g .fine) k at .few-replicas
 
     place : from - 1 < 7
     place = omega (arith, seven, low from to (k .replicas) b e h, high from to (k .replicas) b e h)
 
-    able : Gossips m (from - 1) to
+    able : Gossips lay m (from - 1) to
     able =
         record {
           long = g .long;
@@ -83,36 +85,36 @@ module _ (m : List ℕ) (g : Ready m) (from to : ℕ) (k : Conf) (at : k ≡ con
     row-is : suc (from - 1) ≡ from
     row-is = omega (arith, low from to (k .replicas) b e h)
 
-    module _ (d : ℕ) (z : d ≡ replicaAt (machineOf m) (suc (from - 1)) .down) (a : Answer) where
-      own-down : replicaAt (machineOf m) from .down ≡ d
-      own-down = sym (z ∙ ap (λ (r : ℕ). replicaAt (machineOf m) r .down) row-is)
+    module _ (d : ℕ) (z : d ≡ replicaAt (machineOf lay m) (suc (from - 1)) .down) (a : Answer) where
+      own-down : replicaAt (machineOf lay m) from .down ≡ d
+      own-down = sym (z ∙ ap (λ (r : ℕ). replicaAt (machineOf lay m) r .down) row-is)
 
-      down : d ≡ 1 → a ≡ coded 19 → Took (step (gossip from to) (machineOf m)) a [] m m
+      down : d ≡ 1 → a ≡ coded 19 → Took lay (step (gossip from to) (machineOf lay m)) a [] m m
       unfolding refusal
-      down y q = took-refused (gossip from to) m 19 a (g .long) (λ x. omega arith) (rw (test-is, h, own-down, eq-eqb _ _ y)) q
+      down y q = took-refused lay (gossip from to) m 19 a (g .long) (λ x. omega arith) (rw (test-is, h, own-down, eq-eqb _ _ y)) q
 
-      module _ (up : d ≡ 1 → ⊥) (p : Post) (s : p ≡ gossipPost (replicaAt (machineOf m) (suc (from - 1)) .entries) from to) where
-        post-is : gossipPost (replicaAt (machineOf m) from .entries) from to ≡ p
-        post-is = sym (s ∙ ap (λ (r : ℕ). gossipPost (replicaAt (machineOf m) r .entries) from to) row-is)
+      module _ (up : d ≡ 1 → ⊥) (p : Post) (s : p ≡ gossipPost (replicaAt (machineOf lay m) (suc (from - 1)) .entries) from to) where
+        post-is : gossipPost (replicaAt (machineOf lay m) from .entries) from to ≡ p
+        post-is = sym (s ∙ ap (λ (r : ℕ). gossipPost (replicaAt (machineOf lay m) r .entries) from to) row-is)
 
         few : p .to < 2 ^ 16
         unfolding gossipPost
         few = rw s (only-lt 16 to (omega (arith, seven, high-to from to (k .replicas) b e h)))
 
-        module _ (r : Bool) (y : r ≡ leb (size (p .to)) (emptySlots (machineOf m .slots) + 0)) where
-          full : not r ≡ true → a ≡ coded 24 → Took (step (gossip from to) (machineOf m)) a [] m m
+        module _ (r : Bool) (y : r ≡ leb (size (p .to)) (emptySlots (machineOf lay m .slots) + 0)) where
+          full : not r ≡ true → a ≡ coded 24 → Took lay (step (gossip from to) (machineOf lay m)) a [] m m
           unfolding refusal effectOf gossipEffect
           full x q =
-              took-refused (gossip from to) m 24 a (g .long) (λ x. omega arith)
-              (rw (test-is, h, own-down, ne-eqb _ _ up, post-is, no-slot (machineOf m) nothing p few r y, x)) q
+              took-refused lay (gossip from to) m 24 a (g .long) (λ x. omega arith)
+              (rw (test-is, h, own-down, ne-eqb _ _ up, post-is, no-slot (machineOf lay m) nothing p few r y, x)) q
 
           done : (l : List ℕ) → not r ≡ false → a ≡ coded 0
-              → l ≡ words (withSlots (machineOf m) (placed (messagesOf p) (machineOf m .slots))) (drop 4992 m)
-              → Took (step (gossip from to) (machineOf m)) a [] m l
+              → l ≡ words (withSlots (machineOf lay m) (placed (messagesOf p) (machineOf lay m .slots))) (drop (extent lay) m)
+              → Took lay (step (gossip from to) (machineOf lay m)) a [] m l
           unfolding refusal effectOf gossipEffect
           done l x q t =
-              took-accepted (gossip from to) m l [] a
-              (rw (test-is, h, own-down, ne-eqb _ _ up, post-is, no-slot (machineOf m) nothing p few r y, x)) q refl (rw post-is t)
+              took-accepted lay (gossip from to) m l [] a
+              (rw (test-is, h, own-down, ne-eqb _ _ up, post-is, no-slot (machineOf lay m) nothing p few r y, x)) q refl (rw post-is t)
 
 pub gossip-good-spec : {M : Type 1} → statement M
 gossip-good-spec =

@@ -6,6 +6,8 @@ use native.Mathlib.Omega.{arith}
 use borrow.Author.Needs.{needs}
 use borrow.Author.Tests.{not-true, not-false, eq-eqb, ne-eqb}
 use lib.ListN.{drop}
+use Rattle.tables.specs.Layouts.{extent}
+use Rattle.tables.specs.declared.Layout.{Layout}
 use Rattle.tables.specs.declared.Conf.{Conf}
 use Rattle.tables.specs.declared.Party.the-variants.{AReplica}
 use Rattle.tables.specs.Tables.{replicaAt}
@@ -26,32 +28,32 @@ use Rattle.machine.proofs.Steps.{took-refused, took-accepted}
 use Rattle.machine.proofs.others.tidy_good.Statement.{statement}
 use Rattle.machine.proofs.others.tidy_good.Tie as tie
 
-module _ (m : List ℕ) (g : Ready m) (r : ℕ) (k : Conf) (at : k ≡ confOf m) (b : Bool) (e : b ≡ between 1 (k .replicas) r) (a : Answer) where
-  party-is : isParty (machineOf m .conf) AReplica r ≡ b
-  party-is = own-party m k at AReplica r b e
+module _ (lay : Layout) (m : List ℕ) (g : Ready lay m) (r : ℕ) (k : Conf) (at : k ≡ confOf m) (b : Bool) (e : b ≡ between 1 (k .replicas) r) (a : Answer) where
+  party-is : isParty (machineOf lay m .conf) AReplica r ≡ b
+  party-is = own-party lay m k at AReplica r b e
 
-  out : not b ≡ true → a ≡ coded 18 → Took (step (tidy r) (machineOf m)) a [] m m
+  out : not b ≡ true → a ≡ coded 18 → Took lay (step (tidy r) (machineOf lay m)) a [] m m
   unfolding refusal
-  out h q = took-refused (tidy r) m 18 a (g .long) (λ z. omega arith) (rw (party-is, not-true b h)) q
+  out h q = took-refused lay (tidy r) m 18 a (g .long) (λ z. omega arith) (rw (party-is, not-true b h)) q
 
-  module _ (h : not b ≡ false) (d : ℕ) (f : d ≡ replicaAt (machineOf m) (suc (r - 1)) .down) where
+  module _ (h : not b ≡ false) (d : ℕ) (f : d ≡ replicaAt (machineOf lay m) (suc (r - 1)) .down) where
     row-is : suc (r - 1) ≡ r
     row-is = party-row r (k .replicas) b e h
 
-    own-down : replicaAt (machineOf m) r .down ≡ d
-    own-down = sym (f ∙ ap (λ (p : ℕ). replicaAt (machineOf m) p .down) row-is)
+    own-down : replicaAt (machineOf lay m) r .down ≡ d
+    own-down = sym (f ∙ ap (λ (p : ℕ). replicaAt (machineOf lay m) p .down) row-is)
 
-    down : d ≡ 1 → a ≡ coded 19 → Took (step (tidy r) (machineOf m)) a [] m m
+    down : d ≡ 1 → a ≡ coded 19 → Took lay (step (tidy r) (machineOf lay m)) a [] m m
     unfolding refusal
-    down z q = took-refused (tidy r) m 19 a (g .long) (λ y. omega arith) (rw (party-is, not-false b h, own-down, eq-eqb _ _ z)) q
+    down z q = took-refused lay (tidy r) m 19 a (g .long) (λ y. omega arith) (rw (party-is, not-false b h, own-down, eq-eqb _ _ z)) q
 
-    done : (l : List ℕ) → (d ≡ 1 → ⊥) → a ≡ coded 0 → l ≡ words (withTidied (machineOf m) (suc (r - 1))) (drop 4992 m)
-        → Took (step (tidy r) (machineOf m)) a [] m l
+    done : (l : List ℕ) → (d ≡ 1 → ⊥) → a ≡ coded 0 → l ≡ words (withTidied (machineOf lay m) (suc (r - 1))) (drop (extent lay) m)
+        → Took lay (step (tidy r) (machineOf lay m)) a [] m l
     unfolding refusal effectOf tidyEffect
     done l z q s =
-        let change : Change = replica r (record { down = replicaAt (machineOf m) r .down; entries = tidied (replicaAt (machineOf m) r .entries) }) in
-        took-accepted (tidy r) m l [] a (rw (party-is, not-false b h, own-down, ne-eqb _ _ z, quiet-fits (machineOf m) change)) q refl
-        (rw (quiet-applied (machineOf m) change) (s ∙ ap (λ (p : ℕ). words (withTidied (machineOf m) p) (drop 4992 m)) row-is))
+        let change : Change = replica r (record { down = replicaAt (machineOf lay m) r .down; entries = tidied (replicaAt (machineOf lay m) r .entries) }) in
+        took-accepted lay (tidy r) m l [] a (rw (party-is, not-false b h, own-down, ne-eqb _ _ z, quiet-fits (machineOf lay m) change)) q refl
+        (rw (quiet-applied (machineOf lay m) change) (s ∙ ap (λ (p : ℕ). words (withTidied (machineOf lay m) p) (drop (extent lay) m)) row-is))
 
 pub tidy-good-spec : {M : Type 1} → statement M
 tidy-good-spec =

@@ -4,6 +4,8 @@ use mathlib.Core.List.{List}
 use mathlib.Core.Path.{_≡_, ap, _∙_}
 use Prim.Native.Nat.{ℕ, suc, _+_, _*_, _-_, _<_}
 use lib.ListN.{length, take, drop}
+use Rattle.tables.specs.Layouts.{entriesAt}
+use Rattle.tables.specs.declared.Layout.{Layout}
 use Rattle.tables.specs.declared.Entry.{Entry}
 use Rattle.tables.specs.declared.Message.{Message}
 use Rattle.tables.specs.Tables.{replicaAt}
@@ -13,12 +15,12 @@ use Rattle.machine.proofs.Stored.{entries-in}
 use Rattle.machine.proofs.receiving.is_full.Statement.{statement}
 use Rattle.machine.proofs.receiving.is_full.Tie as tie
 
-full-in : (m : List ℕ) (i : ℕ) (x : Message) (b : Bool) → i < 7 → b ≡ isFull (entriesOf (take (length m - (240 + i * 240)) (drop (240 + i * 240) m))) x
-    → b ≡ isFull (replicaAt (machineOf m) (suc i) .entries) x
-full-in m i x b h e = e ∙ ap (λ (es : List Entry). isFull es x) (entries-in m i h)
+full-in : (lay : Layout) (m : List ℕ) (i : ℕ) (x : Message) (b : Bool) (at : ℕ) → i < 7 → at ≡ entriesAt lay + i * 240
+    → b ≡ isFull (entriesOf (take (length m - at) (drop at m))) x
+    → b ≡ isFull (replicaAt (machineOf lay m) (suc i) .entries) x
+full-in lay m i x b at h p e = e ∙ ap (λ (es : List Entry). isFull es x) (entries-in lay m i h at p)
 
 pub is-full-spec : {M : Type 1} → statement M
 is-full-spec =
     tie.close
-    (tie.spec (λ c. search needs) (λ c. search needs) (λ c. search needs) (λ c. search needs)
-    (λ c. search needs) (λ c. search needs) (λ c κs. search needs) (λ c. search full-in))
+    (tie.spec (λ c κs. search needs) (λ c. search needs) (λ c. search needs) (λ c. search needs) (λ c. search needs) (λ c κs. search needs) (λ c. search full-in))

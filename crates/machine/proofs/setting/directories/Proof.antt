@@ -1,24 +1,25 @@
 use Prim.Native.Nat.{_-_, _≤_}
 use borrow.Author.Needs.{needs}
 use lib.ListN.{drop}
+use Rattle.tables.specs.Layouts.{extent}
 use Rattle.tables.specs.Machines.{machineOf}
-use Rattle.tables.proofs.Holds.{Holds, holds-start, holds-long}
+use Rattle.tables.proofs.Holds.{Holds, holds-start, holds-fits}
 use Rattle.machine.specs.Inner.{withDirectories}
 use Rattle.machine.proofs.Laid.{directory-more, directories-end, holds-same}
 use Rattle.machine.proofs.setting.directories.Statement.{statement}
 use Rattle.machine.proofs.setting.directories.Tie as tie
 
 abbrev Inv-loop : tie.InvT-loop
-Inv-loop m₀ n x i₀ m i = (i ≤ n) × Holds m (withDirectories (machineOf m₀) i x) (drop 4992 m₀)
+Inv-loop lay m₀ n x i₀ m i = (i ≤ n) × Holds lay m (withDirectories (machineOf lay m₀) i x) (drop (extent lay) m₀)
 
 abbrev μ-loop : tie.MeasureT-loop
-μ-loop m₀ n x i₀ m i = n - i
+μ-loop lay m₀ n x i₀ m i = n - i
 
 loop-holds : tie.Need-loop-holds Inv-loop μ-loop
 loop-holds c = (search needs, search holds-start)
 
 set-directory-requires : tie.Need-set-directory-requires Inv-loop μ-loop
-set-directory-requires c κs = (search holds-long, search needs)
+set-directory-requires c κs = (search holds-fits, search needs)
 
 loop-again : tie.Need-loop-again Inv-loop μ-loop
 loop-again c = (search needs, search directory-more)

@@ -1,7 +1,10 @@
 use mathlib.Core.Bool.{true}
 use mathlib.Core.Path.{_≡_}
-use Prim.Native.Nat.{_≤_}
+use Prim.Native.Nat.{ℕ, _≤_}
 use borrow.Author.Needs.{needs}
+use mathlib.Core.List.{List}
+use Rattle.tables.specs.Inner.{Fits}
+use Rattle.tables.specs.declared.Layout.{Layout}
 use Rattle.tables.specs.declared.Conf.{Conf}
 use Rattle.inspect.specs.Good.{goodNumbers}
 use Rattle.inspect.proofs.Facts.{numbers-facts}
@@ -10,15 +13,15 @@ use Rattle.machine.proofs.Laid.{laid}
 use Rattle.machine.proofs.setting.lay_out.Statement.{statement}
 use Rattle.machine.proofs.setting.lay_out.Tie as tie
 
-module _ (k : Conf) (g : goodNumbers k ≡ true) where
+module _ {lay : Layout} {m : List ℕ} (h : Fits lay m) (k : Conf) (g : goodNumbers (lay .directories) k ≡ true) where
   fits : k .replicas ≤ 31
-  fits = few-sets k g .replicas
+  fits = few-sets (lay .directories) k (h .few) g .replicas
 
-  five : k .directories ≤ 5
-  five = numbers-facts k g .few-directories
+  five : k .directories ≤ lay .directories
+  five = numbers-facts (lay .directories) k g .few-directories
 
   seven : k .replicas ≤ 7
-  seven = numbers-facts k g .few-replicas
+  seven = numbers-facts (lay .directories) k g .few-replicas
 
 pub lay-out-spec : {M : Type 1} → statement M
 lay-out-spec =

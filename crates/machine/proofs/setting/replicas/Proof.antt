@@ -2,18 +2,19 @@ use mathlib.Core.Path.{_≡_}
 use Prim.Native.Nat.{_-_, _≤_}
 use borrow.Author.Needs.{needs}
 use lib.ListN.{length, drop}
+use Rattle.tables.specs.Layouts.{extent}
 use Rattle.tables.specs.Machines.{machineOf}
-use Rattle.tables.proofs.Holds.{Holds, holds-start, holds-long}
+use Rattle.tables.proofs.Holds.{Holds, holds-start, holds-fits}
 use Rattle.machine.specs.Inner.{withReplicas}
 use Rattle.machine.proofs.Laid.{replica-more, replicas-end, holds-same}
 use Rattle.machine.proofs.setting.replicas.Statement.{statement}
 use Rattle.machine.proofs.setting.replicas.Tie as tie
 
 abbrev Inv-loop : tie.InvT-loop
-Inv-loop m₀ n x i₀ m i = (i ≤ n) × Holds m (withReplicas (machineOf m₀) i x) (drop 4992 m₀)
+Inv-loop lay m₀ n x i₀ m i = (i ≤ n) × Holds lay m (withReplicas (machineOf lay m₀) i x) (drop (extent lay) m₀)
 
 abbrev μ-loop : tie.MeasureT-loop
-μ-loop m₀ n x i₀ m i = n - i
+μ-loop lay m₀ n x i₀ m i = n - i
 
 page-wide : (s : tie.Start Inv-loop μ-loop) → length (s .args .x .page) ≡ 16
 page-wide s = search needs
@@ -22,7 +23,7 @@ loop-holds : tie.Need-loop-holds Inv-loop μ-loop
 loop-holds c = (search needs, search holds-start)
 
 set-entry-requires : tie.Need-set-entry-requires Inv-loop μ-loop
-set-entry-requires c κs = (search holds-long, search needs, search needs)
+set-entry-requires c κs = (search holds-fits, search needs, search needs)
 
 loop-again : tie.Need-loop-again Inv-loop μ-loop
 loop-again c = (search needs, search (replica-more, page-wide))

@@ -5,10 +5,10 @@ use Rattle.machine.proofs.setting.zero.Statement.{statement}
 use Rattle.machine.proofs.setting.zero.Tie as tie
 
 abbrev Inv-loop : tie.InvT-loop
-Inv-loop m₀ i₀ m i = (i ≤ 4992) × Zeroed m₀ i m
+Inv-loop m₀ end i₀ m i = (i ≤ end) × Zeroed m₀ i m
 
 abbrev μ-loop : tie.MeasureT-loop
-μ-loop m₀ i₀ m i = 4992 - i
+μ-loop m₀ end i₀ m i = end - i
 
 loop-holds : tie.Need-loop-holds Inv-loop μ-loop
 loop-holds c = (search needs, search zeroed-none)
@@ -22,5 +22,5 @@ returns c = search zeroed-all
 pub zero-spec : {M : Type 1} → statement M
 zero-spec =
     tie.close
-    (tie.spec Inv-loop μ-loop loop-holds (λ c. search needs) (λ c. search needs) (λ c. search needs)
+    (tie.spec Inv-loop μ-loop (λ c κs. search needs) loop-holds (λ c. search needs) (λ c. search needs) (λ c. search needs)
     (λ c. search needs) loop-again (λ c. search needs) returns)

@@ -9,8 +9,8 @@ use Rattle.tables.specs.declared.Entry.{Entry}
 use Rattle.tables.specs.Inner.{before}
 use Rattle.tables.specs.Tables.{noEntry, hasTag}
 use Rattle.tables.specs.Machines.{entriesOf}
-use Rattle.rules.specs.declared.Post.{Post}
-use Rattle.rules.specs.Posts.{message, post}
+use Rattle.mail.specs.declared.Post.{Post}
+use Rattle.mail.specs.Posts.{message, post}
 use Rattle.rules.specs.Replica.{highest, gossipPost}
 use Rattle.rules.proofs.Entries.{entry-with}
 use Rattle.rules.proofs.replica.gossip.Statement.{statement}

@@ -9,8 +9,8 @@ use Rattle.sets.specs.Sets.{only, all}
 use Rattle.tables.specs.declared.Entry.{Entry}
 use Rattle.tables.specs.declared.Message.{Message}
 use Rattle.tables.specs.Tables.{noPage}
-use Rattle.rules.specs.declared.Post.{Post}
-use Rattle.rules.specs.Posts.{message, post, noPost}
+use Rattle.mail.specs.declared.Post.{Post}
+use Rattle.mail.specs.Posts.{message, post, noPost}
 use Rattle.rules.specs.Replica.{read, replicaPost}
 use Rattle.rules.proofs.Cases.{at}
 use Rattle.rules.proofs.replica.post.Statement.{statement}
