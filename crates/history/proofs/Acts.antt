@@ -11,10 +11,10 @@ use Rattle.tables.specs.declared.Party.{Party}
 use Rattle.tables.specs.declared.Party.the-variants.{Nobody, AClient, ADirectory, AReplica}
 use Rattle.tables.specs.Kinds.{receiverOf, manyOf}
 use Rattle.tables.specs.Tables.{Page, noPage, Machine, clientAt, directoryAt, replicaAt, slotAt, isEmpty}
+use Rattle.mail.specs.Posts.{noPost}
 use Rattle.inspect.specs.Good.{between}
 use Rattle.inspect.proofs.Facts.{MessageFacts}
 use Rattle.rules.specs.declared.Outcome.{Outcome}
-use Rattle.mail.specs.Posts.{noPost}
 use Rattle.rules.specs.Answers.{coded, answerOf}
 use Rattle.rules.specs.Directory.{directoryAfter, directoryPost}
 use Rattle.rules.specs.Replica.{tidied, replicaAfter, replicaPost, isFull, gossipPost}

@@ -11,10 +11,10 @@ use Rattle.sets.proofs.Tests.{if-ind}
 use Rattle.tables.specs.declared.Client.{Client}
 use Rattle.tables.specs.declared.Conf.{Conf}
 use Rattle.tables.specs.declared.Message.{Message}
+use Rattle.mail.specs.declared.Post.{Post}
 use Rattle.inspect.proofs.Facts.{NumbersFacts}
 use Rattle.rules.specs.declared.Outcome.{Outcome}
 use Rattle.rules.specs.declared.Outcome.the-variants.{Waiting, Next, ReadEnded, WriteEnded, Spent, Stale}
-use Rattle.mail.specs.declared.Post.{Post}
 use Rattle.rules.specs.Client.{gathered, raised, heard, moved, clientAfter, request, secures, clientPost}
 use Rattle.rules.proofs.Heard.{heard-answered}
 use Rattle.machine.proofs.Arrivals.{all-small}

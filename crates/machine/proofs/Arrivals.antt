@@ -42,11 +42,11 @@ module _ (lay : Layout) (k : Conf) (n : NumbersFacts (lay .directories) k) where
   many-few ADirectory = n .few-directories
   many-few AReplica = n .few-replicas
 
-  many-eight : lay .directories ≤ 16 → (who : Party) → manyOf k who ≤ 16
-  many-eight h Nobody = omega arith
-  many-eight h AClient = omega (arith, n .few-clients)
-  many-eight h ADirectory = omega (arith, n .few-directories)
-  many-eight h AReplica = omega (arith, n .few-replicas)
+  many-sixteen : lay .directories ≤ 16 → (who : Party) → manyOf k who ≤ 16
+  many-sixteen h Nobody = omega arith
+  many-sixteen h AClient = omega (arith, n .few-clients)
+  many-sixteen h ADirectory = omega (arith, n .few-directories)
+  many-sixteen h AReplica = omega (arith, n .few-replicas)
 
 module _ (lay : Layout) (m : List ℕ) (s : ℕ) (x : Message) (g : Ready lay m) (b : s < 128) (e : x ≡ slotAt (machineOf lay m) (suc s)) where
   message-of : (x .kind ≡ 0 → ⊥) → MessageFacts (machineOf lay m .conf) x
@@ -70,7 +70,7 @@ module _ (lay : Layout) (m : List ℕ) (s : ℕ) (x : Message) (g : Ready lay m)
         let some : x .kind ≡ 0 → ⊥ = λ k. z (sym q ∙ w ∙ ap receiverOf k) in
         let f = message-of some in
         let n = numbers-of lay m (g .fine) (machineOf lay m .conf) (sym (conf-of lay m)) in
-        let from : x .sender ≤ 16 = omega (arith, f .sender, many-eight lay (machineOf lay m .conf) n (g .long .few) (senderOf (x .kind))) in
+        let from : x .sender ≤ 16 = omega (arith, f .sender, many-sixteen lay (machineOf lay m .conf) n (g .long .few) (senderOf (x .kind))) in
         let to : x .receiver ≤ manyOf (machineOf lay m .conf) who = rw (sym w ∙ q) at (f .receiver) in
         record {
           long = g .long;

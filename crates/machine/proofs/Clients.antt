@@ -8,11 +8,10 @@ use native.Mathlib.Omega.{arith}
 use borrow.Author.Tests.{eq-eqb, ne-eqb, eqb-true}
 use lib.Dec.{eqb}
 use lib.ListN.{length, drop}
-use Rattle.tables.specs.Layouts.{extent}
+use Rattle.tables.specs.Layouts.{extent, base}
 use Rattle.sets.specs.Plain.{if_then_else_}
 use Rattle.sets.specs.declared.Tag.{Tag}
 use Rattle.sets.proofs.Tests.{either, false-T}
-use Rattle.tables.specs.Layouts.{base}
 use Rattle.tables.specs.declared.Layout.{Layout}
 use Rattle.tables.specs.declared.Client.{Client}
 use Rattle.tables.specs.declared.Conf.{Conf}

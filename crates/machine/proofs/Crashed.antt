@@ -6,9 +6,9 @@ use Prim.Native.Nat.{ℕ, zero, suc, _-_}
 use native.Mathlib.Omega.{arith}
 use borrow.Author.Tests.{not-true, not-false, eq-eqb, ne-eqb, lt-leb}
 use lib.ListN.{drop}
-use Rattle.tables.specs.Layouts.{extent}
 use Rattle.tables.specs.declared.Layout.{Layout}
 use Rattle.tables.specs.declared.Conf.{Conf}
+use Rattle.tables.specs.Layouts.{extent}
 use Rattle.tables.specs.Kinds.{manyOf}
 use Rattle.tables.specs.Words.{words}
 use Rattle.tables.specs.Machines.{confOf, machineOf}

@@ -7,21 +7,20 @@ use native.Mathlib.Omega.{arith}
 use borrow.Author.Tests.{eq-eqb, ne-eqb}
 use lib.Dec.{eqb}
 use lib.ListN.{drop}
-use Rattle.tables.specs.Layouts.{extent}
 use Rattle.sets.specs.Sets.{only}
 use Rattle.sets.proofs.Laws.{only-lt}
 use Rattle.sets.proofs.Tests.{if-ind}
-use Rattle.tables.specs.Layouts.{base}
 use Rattle.tables.specs.declared.Layout.{Layout}
 use Rattle.tables.specs.declared.Conf.{Conf}
 use Rattle.tables.specs.declared.Directory.{Directory}
 use Rattle.tables.specs.declared.Message.{Message}
 use Rattle.tables.specs.declared.Party.the-variants.{ADirectory, AReplica}
+use Rattle.tables.specs.Layouts.{extent, base}
 use Rattle.tables.specs.Tables.{Page, noMessage, directoryAt, withSlot}
 use Rattle.tables.specs.Words.{words}
 use Rattle.tables.specs.Machines.{confOf, machineOf}
-use Rattle.rules.specs.declared.Answer.{Answer}
 use Rattle.mail.specs.declared.Post.{Post}
+use Rattle.rules.specs.declared.Answer.{Answer}
 use Rattle.rules.specs.Answers.{coded}
 use Rattle.rules.specs.Directory.{directoryAfter, directoryPost}
 use Rattle.rules.specs.Inner.{DirectoryAble}

@@ -10,7 +10,6 @@ use borrow.Author.Fill.{fill-more}
 use borrow.Author.Tests.{le-leb, lt-leb}
 use lib.Dec.{leb}
 use lib.ListN.{length, getD, set, drop, replicate, length-set, length-drop, length-replicate}
-use Rattle.tables.specs.Layouts.{extent}
 use Rattle.sets.specs.Plain.{if_then_else_, numbers}
 use Rattle.sets.specs.Tags.{first}
 use Rattle.sets.specs.Sets.{all}
@@ -18,6 +17,7 @@ use Rattle.tables.specs.declared.Layout.{Layout}
 use Rattle.tables.specs.declared.Conf.{Conf}
 use Rattle.tables.specs.declared.Directory.{Directory}
 use Rattle.tables.specs.declared.Entry.{Entry}
+use Rattle.tables.specs.Layouts.{extent}
 use Rattle.tables.specs.Rows.{rowsWords, joined}
 use Rattle.tables.specs.Inner.{Fits, put, withEntry}
 use Rattle.tables.specs.Tables.{Page, Machine, noPage, noClient, noDirectory, noEntry, noReplica, noMessage, withDirectory}

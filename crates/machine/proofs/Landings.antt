@@ -7,8 +7,6 @@ use native.Mathlib.Omega.{arith}
 use borrow.Author.Tests.{ne-eqb, le-leb, not-true, not-false}
 use lib.Dec.{leb}
 use lib.ListN.{length, set, drop}
-use Rattle.tables.specs.Inner.{Fits}
-use Rattle.tables.specs.Layouts.{extent}
 use Rattle.sets.specs.Plain.{if_then_else_}
 use Rattle.sets.specs.Sets.{size}
 use Rattle.sets.proofs.Laws.{size-none}
@@ -18,6 +16,8 @@ use Rattle.tables.specs.declared.Directory.{Directory}
 use Rattle.tables.specs.declared.Message.{Message}
 use Rattle.tables.specs.declared.Party.{Party}
 use Rattle.tables.specs.declared.Party.the-variants.{AReplica}
+use Rattle.tables.specs.Inner.{Fits}
+use Rattle.tables.specs.Layouts.{extent}
 use Rattle.tables.specs.Kinds.{receiverOf}
 use Rattle.tables.specs.Tables.{Page, Replica, Machine, noMessage, isEmpty, replicaAt, slotAt, withClient, withDirectory, withReplica, withSlots, withSlot}
 use Rattle.tables.specs.Words.{words}
@@ -25,14 +25,15 @@ use Rattle.tables.specs.Machines.{machineOf}
 use Rattle.tables.proofs.Read.{its-slots}
 use Rattle.tables.proofs.Whole.{wholeOf, whole-client, whole-directory, whole-replica}
 use Rattle.tables.proofs.Holds.{Holds, holds-machine, holds-rest}
+use Rattle.mail.specs.declared.Post.{Post}
+use Rattle.mail.specs.Posts.{noPost, messagesOf}
+use Rattle.mail.specs.Slots.{placed, emptySlots}
+use Rattle.mail.proofs.Messages.{count-more, length-messages, no-messages}
 use Rattle.inspect.specs.Good.{between}
 use Rattle.rules.specs.declared.Answer.{Answer}
-use Rattle.mail.specs.declared.Post.{Post}
 use Rattle.rules.specs.Answers.{coded}
-use Rattle.mail.specs.Posts.{noPost, messagesOf}
 use Rattle.rules.specs.Replica.{isFull, replicaAfter}
 use Rattle.rules.proofs.Every.{stock-after}
-use Rattle.mail.specs.Slots.{placed, emptySlots}
 use Rattle.machine.specs.Effects.{Change, nothing, client, directory, replica, changed}
 use Rattle.machine.specs.Calls.{deliver, isDown}
 use Rattle.machine.specs.Deliver.{taken, received, deliverEffect}
@@ -40,7 +41,6 @@ use Rattle.machine.specs.Refusals.{isOverfull, noSlot, firstOf, refusal}
 use Rattle.machine.specs.Steps.{effectOf, step}
 use Rattle.machine.specs.Inner.{Took, Arrived, hasRoom, Committed, stocked}
 use Rattle.machine.proofs.Rooms.{too-few}
-use Rattle.mail.proofs.Messages.{count-more, length-messages, no-messages}
 use Rattle.machine.proofs.Stored.{as-replica, stock-in}
 use Rattle.machine.proofs.Steps.{took-refused, took-accepted}
 

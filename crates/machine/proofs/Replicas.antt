@@ -7,7 +7,6 @@ use native.Mathlib.Omega.{arith}
 use borrow.Author.Tests.{eq-eqb, ne-eqb}
 use lib.Dec.{eqb}
 use lib.ListN.{drop}
-use Rattle.tables.specs.Layouts.{extent}
 use Rattle.sets.specs.Sets.{only, all}
 use Rattle.sets.proofs.Laws.{only-lt}
 use Rattle.sets.proofs.Tests.{if-ind}
@@ -16,11 +15,12 @@ use Rattle.tables.specs.declared.Conf.{Conf}
 use Rattle.tables.specs.declared.Entry.{Entry}
 use Rattle.tables.specs.declared.Message.{Message}
 use Rattle.tables.specs.declared.Party.the-variants.{AReplica}
+use Rattle.tables.specs.Layouts.{extent}
 use Rattle.tables.specs.Tables.{Page, noMessage, replicaAt, slotAt, withSlot}
 use Rattle.tables.specs.Words.{words}
 use Rattle.tables.specs.Machines.{confOf, machineOf}
-use Rattle.rules.specs.declared.Answer.{Answer}
 use Rattle.mail.specs.declared.Post.{Post}
+use Rattle.rules.specs.declared.Answer.{Answer}
 use Rattle.rules.specs.Answers.{coded}
 use Rattle.rules.specs.Replica.{isFull, replicaAfter, replicaPost}
 use Rattle.machine.specs.Effects.{Effect, replica}

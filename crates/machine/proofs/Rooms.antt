@@ -11,10 +11,10 @@ use Rattle.sets.specs.Sets.{size}
 use Rattle.tables.specs.Tables.{Machine}
 use Rattle.mail.specs.declared.Post.{Post}
 use Rattle.mail.specs.Slots.{emptySlots}
+use Rattle.mail.proofs.Messages.{length-messages}
 use Rattle.machine.specs.Effects.{Change}
 use Rattle.machine.specs.Calls.{done}
 use Rattle.machine.specs.Refusals.{noSlot}
-use Rattle.mail.proofs.Messages.{length-messages}
 
 pub too-few : (e n : ℕ) → ltb e n ≡ not (leb n e)
 too-few e n = go (decLe n e)

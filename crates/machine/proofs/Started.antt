@@ -7,26 +7,26 @@ use native.Mathlib.Omega.{arith}
 use borrow.Author.Tests.{not-true, not-false, ne-eqb, ltb-false}
 use lib.Dec.{leb, ltb, eqb}
 use lib.ListN.{length, drop}
-use Rattle.tables.specs.Layouts.{extent}
 use Rattle.sets.specs.Plain.{if_then_else_}
 use Rattle.sets.specs.Sets.{size}
 use Rattle.tables.specs.declared.Layout.{Layout}
 use Rattle.tables.specs.declared.Conf.{Conf}
 use Rattle.tables.specs.declared.Client.{Client}
 use Rattle.tables.specs.declared.Party.the-variants.{AClient}
+use Rattle.tables.specs.Layouts.{extent}
 use Rattle.tables.specs.Tables.{Page, Machine, noPage, clientAt, withClient, withSlots}
 use Rattle.tables.specs.Words.{words}
 use Rattle.tables.specs.Machines.{confOf, machineOf}
 use Rattle.tables.proofs.Whole.{wholeOf, whole-client}
 use Rattle.tables.proofs.Holds.{Holds, holds-machine, holds-rest}
+use Rattle.mail.specs.declared.Post.{Post}
+use Rattle.mail.specs.Posts.{messagesOf}
+use Rattle.mail.specs.Slots.{placed, emptySlots}
 use Rattle.inspect.specs.Good.{between, isParty}
 use Rattle.inspect.proofs.Facts.{numbers-facts}
 use Rattle.rules.specs.declared.Answer.{Answer}
-use Rattle.mail.specs.declared.Post.{Post}
 use Rattle.rules.specs.Answers.{coded}
 use Rattle.rules.specs.Client.{started, request}
-use Rattle.mail.specs.Posts.{messagesOf}
-use Rattle.mail.specs.Slots.{placed, emptySlots}
 use Rattle.machine.specs.Effects.{Effect, client, applied}
 use Rattle.machine.specs.Calls.{startRead, startWrite, done, startEffect}
 use Rattle.machine.specs.Refusals.{refusal, noSlot}

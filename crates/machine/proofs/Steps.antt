@@ -7,11 +7,11 @@ use native.Mathlib.Omega.{arith}
 use borrow.Author.Tests.{ne-eqb}
 use lib.Dec.{T, ltb, eqb, nltb→le, eqb→eq}
 use lib.ListN.{length, drop}
-use Rattle.tables.specs.Inner.{Fits}
-use Rattle.tables.specs.Layouts.{extent}
 use Rattle.sets.specs.Plain.{if_then_else_}
 use Rattle.sets.proofs.Tests.{false-T, not-not, neither}
 use Rattle.tables.specs.declared.Layout.{Layout}
+use Rattle.tables.specs.Inner.{Fits}
+use Rattle.tables.specs.Layouts.{extent}
 use Rattle.tables.specs.Tables.{Machine}
 use Rattle.tables.specs.Words.{words}
 use Rattle.tables.specs.Machines.{machineOf}

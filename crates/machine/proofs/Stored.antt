@@ -4,9 +4,9 @@ use mathlib.Core.List.{List, _++_}
 use Prim.Native.Nat.{ℕ, suc, _+_, _*_, _-_, _<_}
 use native.Mathlib.Omega.{arith}
 use lib.ListN.{length, take, drop}
-use Rattle.tables.specs.Layouts.{extent, entriesAt}
 use Rattle.tables.specs.declared.Layout.{Layout}
 use Rattle.tables.specs.declared.Entry.{Entry}
+use Rattle.tables.specs.Layouts.{extent, entriesAt}
 use Rattle.tables.specs.Rows.{rowsWords}
 use Rattle.tables.specs.Inner.{Fits, put, withEntries}
 use Rattle.tables.specs.Tables.{Replica, Machine, noReplica, replicaAt, withReplica}

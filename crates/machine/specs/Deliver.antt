@@ -8,10 +8,10 @@ use Rattle.tables.specs.declared.Party.the-variants.{Nobody, AClient, ADirector
 use Rattle.tables.specs.Tables.{Page, Replica, Machine, clientAt, directoryAt, replicaAt, slotAt}
 use Rattle.tables.specs.Kinds.{receiverOf}
 use Rattle.mail.specs.declared.Post.{Post}
+use Rattle.mail.specs.Posts.{noPost}
 use Rattle.rules.specs.declared.Answer.{Answer}
 use Rattle.rules.specs.declared.Outcome.{Outcome}
 use Rattle.rules.specs.declared.Outcome.the-variants.{Waiting, Next, ReadEnded, WriteEnded, Spent, Stale}
-use Rattle.mail.specs.Posts.{noPost}
 use Rattle.rules.specs.Answers.{coded, answerOf}
 use Rattle.rules.specs.Directory.{directoryAfter, directoryPost}
 use Rattle.rules.specs.Replica.{replicaAfter, replicaPost}

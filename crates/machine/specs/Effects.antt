@@ -4,9 +4,9 @@ use Rattle.tables.specs.declared.Client.{Client}
 use Rattle.tables.specs.declared.Directory.{Directory}
 use Rattle.tables.specs.Tables.{Page, Replica, Machine, withClient, withDirectory, withReplica, withSlots}
 use Rattle.mail.specs.declared.Post.{Post}
-use Rattle.rules.specs.declared.Answer.{Answer}
 use Rattle.mail.specs.Posts.{messagesOf}
 use Rattle.mail.specs.Slots.{placed, freed}
+use Rattle.rules.specs.declared.Answer.{Answer}
 
 pub data Change : Type 0 where
   nothing : Change

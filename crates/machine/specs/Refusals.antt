@@ -4,10 +4,10 @@ use Rattle.tables.specs.declared.Message.{Message}
 use Rattle.tables.specs.declared.Party.the-variants.{AClient, AReplica}
 use Rattle.tables.specs.Tables.{Machine, clientAt, replicaAt, slotAt, isEmpty}
 use Rattle.tables.specs.Phases.{isIdle}
-use Rattle.inspect.specs.Good.{between, goodNumbers, isParty}
 use Rattle.mail.specs.Posts.{messagesOf}
-use Rattle.rules.specs.Replica.{isFull}
 use Rattle.mail.specs.Slots.{freed, emptySlots}
+use Rattle.inspect.specs.Good.{between, goodNumbers, isParty}
+use Rattle.rules.specs.Replica.{isFull}
 use Rattle.machine.specs.Effects.{Effect}
 use Rattle.machine.specs.Calls.{Call, setUp, startRead, startWrite, deliver, gossip, tidy, crash, report, isDown, partyOf}
 

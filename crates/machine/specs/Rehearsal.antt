@@ -11,8 +11,8 @@ use Rattle.tables.specs.Kinds.{senderOf, receiverOf}
 use Rattle.tables.specs.Tables.{Page, Machine, noPage, noClient, noDirectory, noEntry, noReplica, noMessage}
 use Rattle.tables.specs.Layouts.{base}
 use Rattle.tables.specs.Machines.{clientsOf, directoriesOf, slotsOf, rowsOf, confOf, clientOf, directoryOf, entryOf, messageOf, entriesOf, replicasOf, machineOf}
-use Rattle.inspect.specs.Good.{goodNumbers}
 use Rattle.mail.specs.Posts.{messagesOf}
+use Rattle.inspect.specs.Good.{goodNumbers}
 use Rattle.rules.specs.Quorums.{enoughToRead, enoughToWrite}
 use Rattle.rules.specs.Directory.{directoryAfter, directoryPost}
 use Rattle.rules.specs.Replica.{entryWith, raised, highest, secure, write, hearGossip, read, tidied, replicaAfter, replicaPost, isFull, gossipPost}

@@ -6,8 +6,8 @@ use Rattle.tables.specs.declared.Conf.{Conf}
 use Rattle.tables.specs.declared.Directory.{Directory}
 use Rattle.tables.specs.Tables.{Page, noPage, Replica, Machine, noClient, noDirectory, noEntry, noReplica, noMessage, isEmpty}
 use Rattle.tables.specs.Rows.{count}
-use Rattle.rules.specs.declared.Answer.{Answer}
 use Rattle.mail.specs.Posts.{noPost}
+use Rattle.rules.specs.declared.Answer.{Answer}
 use Rattle.rules.specs.Answers.{coded}
 use Rattle.rules.specs.Replica.{entry}
 use Rattle.machine.specs.Effects.{nothing, Effect, applied}

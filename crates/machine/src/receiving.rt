@@ -2,9 +2,9 @@
 ghost use mathlib.Core.Path.{_≡_};
 ghost use Prim.Native.Nat.{suc, _-_, _^_, _≤_, _<_};
 ghost use lib.ListN.{length, drop};
+ghost use Rattle.tables.specs.declared.Party.the-variants.{AClient, ADirectory, AReplica};
 ghost use Rattle.tables.specs.Layouts.{extent};
 ghost use Rattle.tables.specs.Inner.{Fits};
-ghost use Rattle.tables.specs.declared.Party.the-variants.{AClient, ADirectory, AReplica};
 ghost use Rattle.tables.specs.Tables.{replicaAt, withReplica};
 ghost use Rattle.tables.specs.Words.{words};
 ghost use Rattle.tables.specs.Machines.{machineOf};

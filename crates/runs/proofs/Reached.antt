@@ -17,9 +17,9 @@ use Rattle.tables.specs.Phases.{roundsLeft, usesPage}
 use Rattle.tables.specs.Tables.{Page, Machine, noPage, clientAt, directoryAt, replicaAt, slotAt, isEmpty}
 use Rattle.tables.proofs.All.{length-withRow}
 use Rattle.tables.proofs.Whole.{Paged, client-paged, slot-paged}
+use Rattle.mail.specs.Posts.{noPost}
 use Rattle.inspect.specs.Good.{zeros, goodNumbers, isParty, goodClient}
 use Rattle.inspect.proofs.Facts.{MessageFacts, client-facts, replica-facts}
-use Rattle.mail.specs.Posts.{noPost}
 use Rattle.machine.specs.Effects.{Change, nothing, client, directory, replica, Effect, changed}
 use Rattle.machine.specs.Calls.{Call, setUp, startRead, startWrite, deliver, gossip, tidy, crash, report, done, isDown, partyOf, downClient, downed, startEffect, gossipEffect, tidyEffect, crashEffect}
 use Rattle.machine.specs.Deliver.{received, clientEffect, directoryEffect, replicaEffect, deliverEffect}

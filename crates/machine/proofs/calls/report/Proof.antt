@@ -6,10 +6,10 @@ use borrow.Author.Needs.{needs}
 use borrow.Author.Tests.{le-ltb}
 use lib.Dec.{ltb}
 use lib.ListN.{length}
-use Rattle.tables.specs.Layouts.{extent}
-use Rattle.tables.specs.Inner.{Fits}
 use Rattle.sets.specs.Plain.{if_then_else_}
 use Rattle.tables.specs.declared.Layout.{Layout}
+use Rattle.tables.specs.Layouts.{extent}
+use Rattle.tables.specs.Inner.{Fits}
 use Rattle.tables.specs.Machines.{machineOf}
 use Rattle.inspect.specs.Good.{good}
 use Rattle.machine.specs.declared.Counts.{Counts}

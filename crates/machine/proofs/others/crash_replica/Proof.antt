@@ -4,9 +4,9 @@ use mathlib.Core.List.{List, []}
 use Prim.Native.Nat.{ℕ, suc, _-_}
 use borrow.Author.Needs.{needs}
 use lib.ListN.{drop}
-use Rattle.tables.specs.Layouts.{extent}
 use Rattle.tables.specs.declared.Layout.{Layout}
 use Rattle.tables.specs.declared.Conf.{Conf}
+use Rattle.tables.specs.Layouts.{extent}
 use Rattle.tables.specs.Tables.{replicaAt}
 use Rattle.tables.specs.Inner.{withDown}
 use Rattle.tables.specs.Words.{words}

@@ -7,23 +7,23 @@ use borrow.Author.Needs.{needs}
 use borrow.Author.Tests.{not-false, eq-eqb, ne-eqb}
 use lib.Dec.{leb, eqb}
 use lib.ListN.{drop}
-use Rattle.tables.specs.Layouts.{extent}
 use Rattle.sets.specs.Sets.{size}
 use Rattle.sets.proofs.Laws.{only-lt}
 use Rattle.tables.specs.declared.Layout.{Layout}
 use Rattle.tables.specs.declared.Conf.{Conf}
 use Rattle.tables.specs.declared.Party.the-variants.{AReplica}
+use Rattle.tables.specs.Layouts.{extent}
 use Rattle.tables.specs.Tables.{replicaAt, withSlots}
 use Rattle.tables.specs.Words.{words}
 use Rattle.tables.specs.Machines.{confOf, machineOf}
+use Rattle.mail.specs.declared.Post.{Post}
+use Rattle.mail.specs.Posts.{messagesOf}
+use Rattle.mail.specs.Slots.{placed, emptySlots}
 use Rattle.inspect.specs.Good.{between, isParty}
 use Rattle.inspect.proofs.Tests.{le-by}
 use Rattle.rules.specs.declared.Answer.{Answer}
-use Rattle.mail.specs.declared.Post.{Post}
 use Rattle.rules.specs.Answers.{coded}
-use Rattle.mail.specs.Posts.{messagesOf}
 use Rattle.rules.specs.Replica.{gossipPost}
-use Rattle.mail.specs.Slots.{placed, emptySlots}
 use Rattle.machine.specs.Effects.{nothing}
 use Rattle.machine.specs.Calls.{gossip, gossipEffect}
 use Rattle.machine.specs.Refusals.{refusal}

@@ -3,8 +3,8 @@ use mathlib.Core.List.{List}
 use Prim.Native.Nat.{ℕ, suc, _+_, _*_, _-_, _<_}
 use borrow.Author.Needs.{needs}
 use lib.ListN.{length, take, drop}
-use Rattle.tables.specs.Layouts.{entriesAt}
 use Rattle.tables.specs.declared.Layout.{Layout}
+use Rattle.tables.specs.Layouts.{entriesAt}
 use Rattle.tables.specs.Tables.{replicaAt}
 use Rattle.tables.specs.Machines.{entriesOf, machineOf}
 use Rattle.mail.specs.declared.Post.{Post}

@@ -6,10 +6,10 @@ use native.Mathlib.Omega.{arith}
 use borrow.Author.Needs.{needs}
 use borrow.Author.Tests.{not-true, not-false, eq-eqb, ne-eqb}
 use lib.ListN.{drop}
-use Rattle.tables.specs.Layouts.{extent}
 use Rattle.tables.specs.declared.Layout.{Layout}
 use Rattle.tables.specs.declared.Conf.{Conf}
 use Rattle.tables.specs.declared.Party.the-variants.{AReplica}
+use Rattle.tables.specs.Layouts.{extent}
 use Rattle.tables.specs.Tables.{replicaAt}
 use Rattle.tables.specs.Words.{words}
 use Rattle.tables.specs.Machines.{confOf, machineOf}

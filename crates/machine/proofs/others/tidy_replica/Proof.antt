@@ -3,8 +3,8 @@ use mathlib.Core.List.{List, _++_}
 use Prim.Native.Nat.{ℕ, suc, _+_, _*_, _-_, _<_}
 use borrow.Author.Needs.{needs}
 use lib.ListN.{length, take, drop}
-use Rattle.tables.specs.Layouts.{extent, entriesAt}
 use Rattle.tables.specs.declared.Layout.{Layout}
+use Rattle.tables.specs.Layouts.{extent, entriesAt}
 use Rattle.tables.specs.Words.{words}
 use Rattle.tables.specs.Machines.{entriesOf, machineOf}
 use Rattle.tables.specs.Inner.{Fits, withEntries}

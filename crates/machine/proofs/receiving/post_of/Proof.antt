@@ -3,10 +3,10 @@ use mathlib.Core.List.{List}
 use mathlib.Core.Path.{_≡_, ap, _∙_}
 use Prim.Native.Nat.{ℕ, suc, _+_, _*_, _-_, _<_}
 use lib.ListN.{length, take, drop}
-use Rattle.tables.specs.Layouts.{entriesAt}
 use Rattle.tables.specs.declared.Layout.{Layout}
 use Rattle.tables.specs.declared.Entry.{Entry}
 use Rattle.tables.specs.declared.Message.{Message}
+use Rattle.tables.specs.Layouts.{entriesAt}
 use Rattle.tables.specs.Tables.{replicaAt}
 use Rattle.tables.specs.Machines.{entriesOf, machineOf}
 use Rattle.mail.specs.declared.Post.{Post}

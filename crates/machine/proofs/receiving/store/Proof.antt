@@ -3,10 +3,10 @@ use mathlib.Core.List.{List, _++_}
 use mathlib.Core.Path.{_≡_}
 use Prim.Native.Nat.{ℕ, suc, _+_, _*_, _-_, _<_}
 use lib.ListN.{length, take, drop}
-use Rattle.tables.specs.Layouts.{extent, entriesAt}
 use Rattle.tables.specs.declared.Layout.{Layout}
 use Rattle.tables.specs.declared.Entry.{Entry}
 use Rattle.tables.specs.declared.Message.{Message}
+use Rattle.tables.specs.Layouts.{extent, entriesAt}
 use Rattle.tables.specs.Tables.{replicaAt, withReplica}
 use Rattle.tables.specs.Words.{words}
 use Rattle.tables.specs.Machines.{entriesOf, machineOf}

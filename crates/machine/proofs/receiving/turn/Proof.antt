@@ -6,9 +6,9 @@ use Rattle.tables.specs.declared.Layout.{Layout}
 use Rattle.tables.specs.declared.Client.{Client}
 use Rattle.tables.specs.declared.Conf.{Conf}
 use Rattle.tables.specs.declared.Message.{Message}
+use Rattle.mail.specs.declared.Post.{Post}
 use Rattle.rules.specs.declared.Answer.{Answer}
 use Rattle.rules.specs.declared.Outcome.{Outcome}
-use Rattle.mail.specs.declared.Post.{Post}
 use Rattle.rules.specs.Answers.{answerOf}
 use Rattle.rules.specs.Client.{clientAfter, clientPost}
 use Rattle.machine.specs.Effects.{client}

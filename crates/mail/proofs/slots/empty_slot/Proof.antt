@@ -4,9 +4,9 @@ use Prim.Native.Nat.{ℕ, suc}
 use borrow.Author.Needs.{needs}
 use Rattle.tables.specs.Rows.{withRow}
 use Rattle.tables.specs.Tables.{noMessage}
+use Rattle.tables.specs.Machines.{slotsOf}
 use Rattle.mail.specs.declared.Post.{Post}
 use Rattle.mail.specs.Posts.{noPost}
-use Rattle.tables.specs.Machines.{slotsOf}
 use Rattle.mail.specs.Inner.{withMail}
 use Rattle.mail.proofs.slots.empty_slot.Statement.{statement}
 use Rattle.mail.proofs.slots.empty_slot.Tie as tie

@@ -6,8 +6,8 @@ use borrow.Author.Needs.{needs}
 use lib.ListN.{drop}
 use Rattle.tables.specs.Rows.{count}
 use Rattle.tables.specs.Tables.{noMessage, isEmpty}
-use Rattle.tables.proofs.Loops.{counted, not-counted, counted-all}
 use Rattle.tables.specs.Machines.{slotsOf}
+use Rattle.tables.proofs.Loops.{counted, not-counted, counted-all}
 use Rattle.tables.proofs.Read.{slots-many}
 use Rattle.mail.proofs.Words.{slot-empty, slot-taken}
 use Rattle.mail.proofs.slots.empty_slots.Statement.{statement}

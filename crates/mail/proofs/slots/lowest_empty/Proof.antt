@@ -4,8 +4,8 @@ use borrow.Author.Needs.{needs}
 use lib.ListN.{drop}
 use Rattle.tables.specs.Inner.{before}
 use Rattle.tables.specs.Tables.{noMessage, isEmpty}
-use Rattle.tables.proofs.Loops.{found, further, missing}
 use Rattle.tables.specs.Machines.{slotsOf}
+use Rattle.tables.proofs.Loops.{found, further, missing}
 use Rattle.tables.proofs.Read.{slots-many}
 use Rattle.mail.proofs.Words.{slot-empty, slot-taken}
 use Rattle.mail.proofs.slots.lowest_empty.Statement.{statement}

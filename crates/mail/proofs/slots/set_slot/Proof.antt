@@ -7,8 +7,8 @@ use Rattle.tables.specs.declared.Message.{Message}
 use Rattle.tables.specs.Inner.{put}
 use Rattle.tables.specs.Rows.{withRow}
 use Rattle.tables.specs.Words.{messageWords}
-use Rattle.tables.proofs.Parts.{put-rest}
 use Rattle.tables.specs.Machines.{slotsOf}
+use Rattle.tables.proofs.Parts.{put-rest}
 use Rattle.mail.specs.Inner.{withMail}
 use Rattle.mail.proofs.Words.{slot-put}
 use Rattle.mail.proofs.slots.set_slot.Statement.{statement}

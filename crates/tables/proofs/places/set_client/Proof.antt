@@ -4,8 +4,8 @@ use mathlib.Core.List.{List, _++_}
 use Prim.Native.Nat.{ℕ, suc, _+_, _*_, _-_, _<_}
 use lib.ListN.{length, take, drop}
 use Rattle.tables.specs.declared.Layout.{Layout}
-use Rattle.tables.specs.Layouts.{extent}
 use Rattle.tables.specs.declared.Client.{Client}
+use Rattle.tables.specs.Layouts.{extent}
 use Rattle.tables.specs.Inner.{Fits, put}
 use Rattle.tables.specs.Tables.{withClient}
 use Rattle.tables.specs.Words.{clientWords, words}

@@ -4,8 +4,8 @@ use mathlib.Core.List.{List, _++_}
 use Prim.Native.Nat.{ℕ, suc, _+_, _*_, _-_, _<_}
 use lib.ListN.{length, take, drop}
 use Rattle.tables.specs.declared.Layout.{Layout}
-use Rattle.tables.specs.Layouts.{entriesAt, extent}
 use Rattle.tables.specs.declared.Entry.{Entry}
+use Rattle.tables.specs.Layouts.{entriesAt, extent}
 use Rattle.tables.specs.Inner.{Fits, put, withEntry}
 use Rattle.tables.specs.Words.{entryWords, words}
 use Rattle.tables.specs.Machines.{machineOf}
