@@ -15,7 +15,7 @@ use Rattle.tables.specs.Layouts.{extent}
 use Rattle.tables.specs.Words.{words}
 use Rattle.tables.specs.Machines.{machineOf}
 use Rattle.tables.proofs.Read.{its-room}
-use Rattle.tables.proofs.Whole.{Paged, whole-in}
+use Rattle.tables.proofs.Whole.{Paged}
 use Rattle.tables.proofs.Round.{machine-back}
 use Rattle.inspect.specs.Good.{goodNumbers}
 use Rattle.machine.specs.Calls.{Call, setUp}
@@ -63,7 +63,7 @@ module _ (lay : Layout) where
             (is-paged lay c m w, n),
             refl,
             machine-back lay (step c M .machine) (drop (extent lay) m)
-                (whole-in (step-sound c M (G .sound) (is-paged lay c m w) .whole) (step-room c M ∙ its-room lay m)),
+                (step-sound c M (G .sound) (is-paged lay c m w) .whole) (step-room c M ∙ its-room lay m),
           )
 
   -- an accepted set-up leaves a new machine
@@ -80,7 +80,7 @@ module _ (lay : Layout) where
           let g : goodNumbers rows k ≡ true = T-true (goodNumbers rows k) (not-not (goodNumbers rows k) (allowed (setUp k p) (machineOf lay m) h .argument)) in
           let q : Paged p = eqb→eq (length p) 16 (not-not (eqb (length p) 16) w) in
           subst (Fresh layered p)
-          (sym (machine-back lay (newMachine rows k p) (drop (extent lay) m) (whole-in (new-sound k p q rows g .whole) (new-room rows k p ∙ its-room lay m))))
+          (sym (machine-back lay (newMachine rows k p) (drop (extent lay) m) (new-sound k p q rows g .whole) (new-room rows k p ∙ its-room lay m)))
           (fresh rows k p g q)
 
       go : {o : Outcomes} → CallWay lay (setUp k p) m o → o .answer .code ≡ 0 → Fresh layered p (machineOf lay (o .buffer))

@@ -36,7 +36,7 @@ module _ (M : Machine) (z : Sound M) (p : ℕ) where
   client-set a w = let n = numbers-of z in row-same noClient (M .clients) p w (a .low) (omega (arith, z .whole .clients))
 
   pub directory-set : Among (M .conf .directories) p → (w : Directory) → directoryAt (withDirectory M p w) p ≡ w
-  directory-set a w = let n = numbers-of z in row-same noDirectory (M .directories) p w (a .low) (omega (arith, z .whole .directories))
+  directory-set a w = let n = numbers-of z in row-same noDirectory (M .directories) p w (a .low) (omega arith)
 
   pub replica-set : Among (M .conf .replicas) p → (w : Replica) → replicaAt (withReplica M p w) p ≡ w
   replica-set a w = let n = numbers-of z in row-same noReplica (M .replicas) p w (a .low) (omega (arith, z .whole .replicas))

@@ -24,9 +24,9 @@ use Rattle.tables.specs.Tables.{Page, Machine, noPage, noClient, noDirectory, n
 use Rattle.tables.specs.Words.{confWords, clientWords, directoryWords, downWords, entryWords, replicaWords, messageWords, blocks, words}
 use Rattle.tables.specs.Machines.{machineOf}
 use Rattle.tables.proofs.Table.{wider}
-use Rattle.tables.proofs.All.{all-replicate}
+use Rattle.tables.proofs.All.{all-replicate, length-withRow}
 use Rattle.tables.proofs.Read.{its-room, its-replicas}
-use Rattle.tables.proofs.Whole.{Paged, Whole, blank-client, blank-message, blank-replica, whole-directory, whole-entry}
+use Rattle.tables.proofs.Whole.{Paged, Whole, Room, blank-client, blank-message, blank-replica, whole-directory, whole-entry}
 use Rattle.tables.proofs.Holds.{Holds, holds-length, holds-machine, holds-rest, holds-step}
 use Rattle.rules.specs.Replica.{entry}
 use Rattle.machine.specs.Steps.{newMachine}
@@ -95,14 +95,14 @@ module _ (lay : Layout) (m₀ m l : List ℕ) (i n : ℕ) (less : i < n) where
   directory-more x b h e =
       let r : i < length (machineOf lay m₀ .directories) = rw its-room (omega arith) in
       rw (add-one i, ← rows-more (λ d. x) (machineOf lay m₀ .directories) i x r)
-      (holds-step h (λ N. withDirectory N (suc i) x) l e (whole-directory (h .whole) (suc i) x))
+      (holds-step h (λ N. withDirectory N (suc i) x) l e (whole-directory (h .whole) (suc i) x) (length-withRow (withDirectories (machineOf lay m₀) i x .directories) (suc i) x ∙ h .room))
 
   pub replica-more : (x : Entry) → n ≤ 7 → Paged (x .page) → Holds lay m (withReplicas (machineOf lay m₀) i x) (drop (extent lay) m₀)
       → l ≡ words (withEntry (machineOf lay m) (suc i) (suc 0) x) (drop (extent lay) m) → Holds lay l (withReplicas (machineOf lay m₀) (i + 1) x) (drop (extent lay) m₀)
   replica-more x b p h e =
       let r : i < length (machineOf lay m₀ .replicas) = rw its-replicas (omega arith) in
       rw (add-one i, ← rows-more (withFirst x) (machineOf lay m₀ .replicas) i noReplica r)
-      (holds-step h (λ N. withEntry N (suc i) 1 x) l e (whole-entry (h .whole) (suc i) 1 x p))
+      (holds-step h (λ N. withEntry N (suc i) 1 x) l e (whole-entry (h .whole) (suc i) 1 x p) (h .room))
 
 module _ (lay : Layout) (m t : List ℕ) (M : Machine) (i n : ℕ) (a : i ≤ n) (b : n ≤ i) where
   same-count : i ≡ n
@@ -137,13 +137,12 @@ pub cleared : (lay : Layout) (k : Conf) (m a b : List ℕ) → a ≡ replicate (
 unfolding confWords
 cleared lay k m a b e f = f ∙ ap (λ (q : List ℕ). put q 0 (confWords k)) e ∙ words-blank (lay .directories) k (drop (extent lay) m)
 
-whole-blank : (lay : Layout) (k : Conf) → Whole lay (blank (lay .directories) k)
+whole-blank : (n : ℕ) (k : Conf) → Whole (blank n k)
 unfolding blank
-whole-blank lay k =
+whole-blank n k =
     record {
       spare = refl;
       clients = refl;
-      directories = length-replicate (lay .directories) noDirectory;
       gap = refl;
       replicas = refl;
       slots = refl;
@@ -159,20 +158,26 @@ module _ (lay : Layout) (k : Conf) (page : Page) where
   abbrev with-rows : Machine
   with-rows = withDirectories (blank (lay .directories) k) (k .directories) row-of
 
-  whole-rows : Whole lay with-rows
+  whole-rows : Whole with-rows
   unfolding blank
   whole-rows =
       record {
         spare = refl;
         clients = refl;
-        directories = length-firstRows (λ d. row-of) (k .directories) (replicate (lay .directories) noDirectory) ∙ length-replicate (lay .directories) noDirectory;
         gap = refl;
         replicas = refl;
         slots = refl;
-        client-pages = whole-blank lay k .client-pages;
-        stocks = whole-blank lay k .stocks;
-        slot-pages = whole-blank lay k .slot-pages;
+        client-pages = whole-blank (lay .directories) k .client-pages;
+        stocks = whole-blank (lay .directories) k .stocks;
+        slot-pages = whole-blank (lay .directories) k .slot-pages;
       }
+
+  blank-room : Room lay (blank (lay .directories) k)
+  unfolding blank
+  blank-room = length-replicate (lay .directories) noDirectory
+
+  rows-room : Room lay with-rows
+  rows-room = length-firstRows (λ d. row-of) (k .directories) (blank (lay .directories) k .directories) ∙ blank-room
 
   laid-is : withReplicas with-rows (k .replicas) (entry 2 first page) ≡ newMachine (lay .directories) k page
   unfolding newMachine blank noReplica
@@ -194,8 +199,8 @@ module _ (lay : Layout) (k : Conf) (page : Page) where
       → d ≡ words (withReplicas (machineOf lay c) (k .replicas) (record { state = 2; tag = first; spare = 0; page = page })) (drop (extent lay) c)
       → d ≡ words (newMachine (lay .directories) k page) (drop (extent lay) m)
   laid m b c d s zb zs zc zd =
-      let hb : Holds lay b (blank (lay .directories) k) (drop (extent lay) m) = record { is = zb; whole = whole-blank lay k } in
-      let hc : Holds lay c with-rows (drop (extent lay) m) = holds-step hb (λ N. withDirectories N (k .directories) row-of) c (rw zs at zc) whole-rows in
+      let hb : Holds lay b (blank (lay .directories) k) (drop (extent lay) m) = record { is = zb; whole = whole-blank (lay .directories) k; room = blank-room } in
+      let hc : Holds lay c with-rows (drop (extent lay) m) = holds-step hb (λ N. withDirectories N (k .directories) row-of) c (rw zs at zc) whole-rows rows-room in
       zd
       ∙ ap (λ (N : Machine). words (withReplicas N (k .replicas) (entry 2 first page)) (drop (extent lay) c)) (holds-machine hc)
       ∙ rw (holds-rest hc, laid-is)

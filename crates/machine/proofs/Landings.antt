@@ -22,7 +22,8 @@ use Rattle.tables.specs.Kinds.{receiverOf}
 use Rattle.tables.specs.Tables.{Page, Replica, Machine, noMessage, isEmpty, replicaAt, slotAt, withClient, withDirectory, withReplica, withSlots, withSlot}
 use Rattle.tables.specs.Words.{words}
 use Rattle.tables.specs.Machines.{machineOf}
-use Rattle.tables.proofs.Read.{its-slots}
+use Rattle.tables.proofs.All.{length-withRow}
+use Rattle.tables.proofs.Read.{its-room, its-slots}
 use Rattle.tables.proofs.Whole.{wholeOf, whole-client, whole-directory, whole-replica}
 use Rattle.tables.proofs.Holds.{Holds, holds-machine, holds-rest}
 use Rattle.mail.specs.declared.Post.{Post}
@@ -166,19 +167,19 @@ module _ (lay : Layout) (m : List ℕ) (s : ℕ) (y : Post) (b : Bool) (r : b �
     pub commits-directory : (i : ℕ) (d : Directory) (a₀ a : Answer) → n ≡ words (withDirectory (machineOf lay m) (suc i) d) (drop (extent lay) m) → a ≡ a₀
         → Committed lay m s (directory (suc i) d) y a₀ a l
     commits-directory i d a₀ a w z =
-        commits (directory (suc i) d) a₀ a (record { is = w; whole = whole-directory (wholeOf lay m (h .long)) (suc i) d }) refl z
+        commits (directory (suc i) d) a₀ a (record { is = w; whole = whole-directory (wholeOf lay m (h .long)) (suc i) d; room = length-withRow (machineOf lay m .directories) (suc i) d ∙ its-room lay m }) refl z
 
     pub commits-client : (i : ℕ) (c : Client) (a₀ a : Answer) → length (c .page) ≡ 16 → n ≡ words (withClient (machineOf lay m) (suc i) c) (drop (extent lay) m) → a ≡ a₀
         → Committed lay m s (client (suc i) c) y a₀ a l
     commits-client i c a₀ a p w z =
-        commits (client (suc i) c) a₀ a (record { is = w; whole = whole-client (wholeOf lay m (h .long)) (suc i) c p }) refl z
+        commits (client (suc i) c) a₀ a (record { is = w; whole = whole-client (wholeOf lay m (h .long)) (suc i) c p; room = its-room lay m }) refl z
 
     pub commits-replica : (i : ℕ) (x : Message) (a₀ a : Answer) → i < 7 → length (x .page) ≡ 16
         → n ≡ words (withReplica (machineOf lay m) (suc i) (stocked (machineOf lay m) (suc i) (replicaAfter (replicaAt (machineOf lay m) (suc i) .entries) x))) (drop (extent lay) m) → a ≡ a₀
         → Committed lay m s (replica (suc i) (stocked (machineOf lay m) (suc i) (replicaAfter (replicaAt (machineOf lay m) (suc i) .entries) x))) y a₀ a l
     commits-replica i x a₀ a b p w z =
         let r : Replica = stocked (machineOf lay m) (suc i) (replicaAfter (replicaAt (machineOf lay m) (suc i) .entries) x) in
-        commits (replica (suc i) r) a₀ a (record { is = w; whole = whole-replica (wholeOf lay m (h .long)) (suc i) r (as-replica _ (stock-after x p (stock-in lay m i h))) }) refl z
+        commits (replica (suc i) r) a₀ a (record { is = w; whole = whole-replica (wholeOf lay m (h .long)) (suc i) r (as-replica _ (stock-after x p (stock-in lay m i h))); room = its-room lay m }) refl z
 
 pub page-kept : (b : Bool) (page : Page) → page ≡ (if b then page else page)
 page-kept true page = refl

@@ -15,6 +15,7 @@ use Rattle.tables.specs.Tables.{noMessage, slotAt, withSlots}
 use Rattle.tables.specs.Words.{messageWords, words}
 use Rattle.tables.specs.Machines.{slotsOf, machineOf}
 use Rattle.tables.proofs.Parts.{rest-all, put-rest}
+use Rattle.tables.proofs.Read.{its-room}
 use Rattle.tables.proofs.Round.{words-back, put-slots}
 use Rattle.tables.proofs.Whole.{wholeOf}
 use Rattle.mail.specs.declared.Post.{Post}
@@ -57,7 +58,7 @@ module _ (lay : Layout) (m : List ℕ) (at : ℕ) (place : at ≡ slotsAt lay) w
         let new : List ℕ = rowsWords messageWords (f (machineOf lay m .slots)) in
         put-rest m at new ys (e ∙ ap (λ (ss : List Message). withMail part (f ss)) lent)
         ∙ ap (λ (q : List ℕ). put q at new) (sym (words-back lay m (h .long)))
-        ∙ rw place (put-slots lay (machineOf lay m) (drop (extent lay) m) (wholeOf lay m (h .long)) (f (machineOf lay m .slots)) (mail-words m (f (machineOf lay m .slots)) k))
+        ∙ rw place (put-slots lay (machineOf lay m) (drop (extent lay) m) (wholeOf lay m (h .long)) (its-room lay m) (f (machineOf lay m .slots)) (mail-words m (f (machineOf lay m .slots)) k))
 
     pub emptied : (s : ℕ) → ys ≡ withMail part (withRow (slotsOf part) (suc s) noMessage)
         → whole ≡ words (withSlots (machineOf lay m) (withRow (machineOf lay m .slots) (suc s) noMessage)) (drop (extent lay) m)

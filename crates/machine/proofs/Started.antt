@@ -17,6 +17,7 @@ use Rattle.tables.specs.Layouts.{extent}
 use Rattle.tables.specs.Tables.{Page, Machine, noPage, clientAt, withClient, withSlots}
 use Rattle.tables.specs.Words.{words}
 use Rattle.tables.specs.Machines.{confOf, machineOf}
+use Rattle.tables.proofs.Read.{its-room}
 use Rattle.tables.proofs.Whole.{wholeOf, whole-client}
 use Rattle.tables.proofs.Holds.{Holds, holds-machine, holds-rest}
 use Rattle.mail.specs.declared.Post.{Post}
@@ -66,7 +67,7 @@ module _ (lay : Layout) (m : List ℕ) (k : Conf) (c : ℕ) (y : Client) (g : La
     launched l n w z q t u =
         let row : suc (c - 1) ≡ c = omega (arith, g .low) in
         let held : Holds lay l (withClient (machineOf lay m) c y) (drop (extent lay) m) =
-        record { is = t ∙ ap (λ (i : ℕ). words (withClient (machineOf lay m) i y) (drop (extent lay) m)) row; whole = whole-client (wholeOf lay m (g .ready .long .long)) c y w } in
+        record { is = t ∙ ap (λ (i : ℕ). words (withClient (machineOf lay m) i y) (drop (extent lay) m)) row; whole = whole-client (wholeOf lay m (g .ready .long .long)) c y w; room = its-room lay m } in
         let after : n ≡ words (withSlots (withClient (machineOf lay m) c y) (placed (messagesOf p) (machineOf lay m .slots))) (drop (extent lay) m) =
         u ∙ rw (holds-machine held, holds-rest held) in
         rw (← s, no-slot (machineOf lay m) (client c y) p launch-few r x, z) (record { answer = q; page = refl; buffer = after })

@@ -16,9 +16,9 @@ use Rattle.tables.proofs.All.{all-map}
 use Rattle.tables.proofs.Table.{rows-same}
 use Rattle.tables.proofs.Blocks.{block-set}
 use Rattle.tables.proofs.Parts.{rest-all, put-rest}
-use Rattle.tables.proofs.Read.{replica-at}
+use Rattle.tables.proofs.Read.{replica-at, its-room}
 use Rattle.tables.proofs.Round.{replica-wide, at-replicas, words-back}
-use Rattle.tables.proofs.Whole.{Stocked, Whole, wholeOf, replica-stocked}
+use Rattle.tables.proofs.Whole.{Stocked, Whole, Room, wholeOf, replica-stocked}
 use Rattle.rules.proofs.Stock.{Stock}
 use Rattle.machine.specs.Inner.{stocked}
 
@@ -26,14 +26,14 @@ use Rattle.machine.specs.Inner.{stocked}
 pub as-replica : {es : List Entry} (d : ℕ) → Stock es → Stocked (record { down = d; entries = es })
 as-replica d s = record { many = s .many; pages = s .pages }
 
-module _ (lay : Layout) (M : Machine) (t : List ℕ) (z : Whole lay M) where
+module _ (lay : Layout) (M : Machine) (t : List ℕ) (z : Whole M) (room : Room lay M) where
   put-entries : (i : ℕ) (es : List Entry) → i < 7 → Stock es
       → put (words M t) (entriesAt lay + i * 240) (rowsWords entryWords es) ≡ words (withReplica M (suc i) (stocked M (suc i) es)) t
   unfolding words blocks downWords replicaWords
   put-entries i es h s =
       let r : Replica = stocked M (suc i) es in
       rw (rows-same downWords (M .replicas) i r noReplica refl)
-      (block-set replicaWords 240 (blocks M t) 6 (entriesAt lay) (omega arith) (at-replicas lay M t z) (all-map replica-wide (z .stocks)) refl i r (rw (z .replicas) h) (replica-wide r (as-replica _ s)))
+      (block-set replicaWords 240 (blocks M t) 6 (entriesAt lay) (omega arith) (at-replicas lay M t z room) (all-map replica-wide (z .stocks)) refl i r (rw (z .replicas) h) (replica-wide r (as-replica _ s)))
 
 -- ---- the part that begins with the entries of replica i, at the place `at`
 module _ (lay : Layout) (m : List ℕ) (i : ℕ) (b : i < 7) (at : ℕ) (place : at ≡ entriesAt lay + i * 240) where
@@ -49,7 +49,7 @@ module _ (lay : Layout) (m : List ℕ) (i : ℕ) (b : i < 7) (at : ℕ) (place :
       let es : List Entry = replicaAt (machineOf lay m) (suc i) .entries in
       put-rest m at (rowsWords entryWords (f es)) ys (rw entries-in at e)
       ∙ ap (λ (q : List ℕ). put q at (rowsWords entryWords (f es))) (sym (words-back lay m (l .long)))
-      ∙ rw place (put-entries lay (machineOf lay m) (drop (extent lay) m) (wholeOf lay m (l .long)) i (f es) b s)
+      ∙ rw place (put-entries lay (machineOf lay m) (drop (extent lay) m) (wholeOf lay m (l .long)) (its-room lay m) i (f es) b s)
 
 -- the entries that are there
 pub stock-in : (lay : Layout) (m : List ℕ) (i : ℕ) → Fits lay m → Stock (replicaAt (machineOf lay m) (suc i) .entries)

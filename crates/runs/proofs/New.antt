@@ -88,7 +88,6 @@ module _ (k : Conf) where
               record {
                 spare = refl;
                 clients = refl;
-                directories = refl;
                 gap = refl;
                 replicas = refl;
                 slots = length-replicate 128 noMessage;

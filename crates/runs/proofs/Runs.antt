@@ -18,7 +18,7 @@ use Rattle.tables.specs.Words.{words}
 use Rattle.tables.specs.Machines.{machineOf}
 use Rattle.tables.proofs.All.{All, none, cons}
 use Rattle.tables.proofs.Read.{its-room}
-use Rattle.tables.proofs.Whole.{Paged, Whole, whole-in, wholeOf}
+use Rattle.tables.proofs.Whole.{Paged, Whole, Room, wholeOf}
 use Rattle.tables.proofs.Round.{words-back, machine-back, rest-words, length-words}
 use Rattle.inspect.specs.Good.{goodNumbers, good}
 use Rattle.inspect.proofs.Machines.{good-machine}
@@ -47,34 +47,27 @@ shown t r = left (r .answer) (r .page) (words (r .machine) t)
 pub sized-sound : (c : Call) (M : Machine) → Sound M → Sound (sizedStep c M .machine)
 sized-sound c M z = if-ind (λ (r : Result). Sound (r .machine)) (wrongPage c) (λ _. z) (λ n. step-sound c M z n)
 
--- a machine that has room for as many directories as the layout
-abbrev pub In : Layout → Machine → Type 0
-In lay M = length (M .directories) ≡ lay .directories
-
-pub sized-in : {lay : Layout} (c : Call) (M : Machine) → In lay M → In lay (sizedStep c M .machine)
-sized-in {lay} c M i = if-ind (λ (r : Result). In lay (r .machine)) (wrongPage c) (λ _. i) (λ _. step-room c M ∙ i)
+pub sized-room : {lay : Layout} (c : Call) (M : Machine) → Room lay M → Room lay (sizedStep c M .machine)
+sized-room {lay} c M i = if-ind (λ (r : Result). Room lay (r .machine)) (wrongPage c) (λ _. i) (λ _. step-room c M ∙ i)
 
 -- a buffer that is long enough and not bad
 pub buffer-sound : (lay : Layout) (m : List ℕ) → extent lay ≤ length m → good lay m ≡ true → Sound (machineOf lay m)
-buffer-sound lay m h g = record { good = good-machine lay m g; whole = whole-in (wholeOf lay m h) refl }
+buffer-sound lay m h g = record { good = good-machine lay m g; whole = wholeOf lay m h }
 
-pub words-good : {lay : Layout} {M : Machine} → In lay M → Sound M → (t : List ℕ) → good lay (words M t) ≡ true
+pub words-good : {lay : Layout} {M : Machine} → Room lay M → Sound M → (t : List ℕ) → good lay (words M t) ≡ true
 unfolding good
-words-good {lay} {M} i z t = rw (machine-back lay M t (whole-in (z .whole) i)) (z .good)
+words-good {lay} {M} i z t = rw (machine-back lay M t (z .whole) i) (z .good)
 
-module _ {lay : Layout} (c : Call) {M : Machine} (i : In lay M) (z : Sound M) (t : List ℕ) where
+module _ {lay : Layout} (c : Call) {M : Machine} (i : Room lay M) (z : Sound M) (t : List ℕ) where
   pub call-is : call lay c (words M t) ≡ shown t (sizedStep c M)
   unfolding call good
   call-is =
       ⊎-elim (λ (w : wrongPage c ≡ true). rw (le-ltb (length (words M t)) (extent lay) long, w))
-      (λ (w : wrongPage c ≡ false). rw (le-ltb (length (words M t)) (extent lay) long, w, machine-back lay M t whole, z .good, and-false, rest-words lay M t whole))
+      (λ (w : wrongPage c ≡ false). rw (le-ltb (length (words M t)) (extent lay) long, w, machine-back lay M t (z .whole) i, z .good, and-false, rest-words lay M t (z .whole) i))
       (either (wrongPage c))
     where
-      whole : Whole lay M
-      whole = whole-in (z .whole) i
-
       long : extent lay ≤ length (words M t)
-      long = omega (arith, length-words lay M t whole)
+      long = omega (arith, length-words lay M t (z .whole) i)
 
 -- ---- a list of calls
 
@@ -88,21 +81,21 @@ called lay m [] = []
 called lay m (c ∷ cs) = let o : Outcomes = call lay c m in o ∷ called lay (o .buffer) cs
 
 -- the buffers and answers are the words and answers of the steps
-pub run-is : (lay : Layout) (cs : List Call) {M : Machine} → In lay M → Sound M → (t : List ℕ) → called lay (words M t) cs ≡ map (shown t) (ran M cs)
+pub run-is : (lay : Layout) (cs : List Call) {M : Machine} → Room lay M → Sound M → (t : List ℕ) → called lay (words M t) cs ≡ map (shown t) (ran M cs)
 unfolding called ran
 run-is lay [] i z t = refl
 run-is lay (c ∷ cs) {M} i z t =
     ap (λ (o : Outcomes). o ∷ called lay (o .buffer) cs) (call-is c i z t)
-    ∙ ap (λ (os : List Outcomes). shown t (sizedStep c M) ∷ os) (run-is lay cs (sized-in c M i) (sized-sound c M z) t)
+    ∙ ap (λ (os : List Outcomes). shown t (sizedStep c M) ∷ os) (run-is lay cs (sized-room c M i) (sized-sound c M z) t)
 
 -- and no buffer is bad
-pub run-good : (lay : Layout) (cs : List Call) {M : Machine} → In lay M → Sound M → (t : List ℕ)
+pub run-good : (lay : Layout) (cs : List Call) {M : Machine} → Room lay M → Sound M → (t : List ℕ)
     → All (λ (o : Outcomes). good lay (o .buffer) ≡ true) (called lay (words M t) cs)
 unfolding called
 run-good lay [] i z t = none
 run-good lay (c ∷ cs) {M} i z t =
     subst (λ (o : Outcomes). All (λ (o : Outcomes). good lay (o .buffer) ≡ true) (o ∷ called lay (o .buffer) cs)) (sym (call-is c i z t))
-    (cons (words-good (sized-in c M i) (sized-sound c M z) t) (run-good lay cs (sized-in c M i) (sized-sound c M z) t))
+    (cons (words-good (sized-room c M i) (sized-sound c M z) t) (run-good lay cs (sized-room c M i) (sized-sound c M z) t))
 
 -- on a buffer that is not bad
 pub run-on : (lay : Layout) (m : List ℕ) → extent lay ≤ length m → good lay m ≡ true → (cs : List Call)
@@ -117,7 +110,7 @@ module _ (lay : Layout) (k : Conf) (page : Page) (g : goodNumbers (lay .director
   abbrev N : Machine
   N = newMachine (lay .directories) k page
 
-  pub set-up-accepted : (M : Machine) → In lay M → codeOf (setUp k page) M ≡ 0
+  pub set-up-accepted : (M : Machine) → Room lay M → codeOf (setUp k page) M ≡ 0
   unfolding refusal effectOf
   set-up-accepted M i = rw (i, g, quiet-fits M nothing)
 
@@ -146,11 +139,11 @@ later-kept lay c m = go (call-way lay c m)
     same : Beyond lay m m
     same = record { words = refl; long = refl }
 
-    whole : extent lay ≤ length m → {M : Machine} → Whole lay M → Beyond lay m (words M (drop (extent lay) m))
-    whole h {M} w =
+    whole : extent lay ≤ length m → {M : Machine} → Whole M → Room lay M → Beyond lay m (words M (drop (extent lay) m))
+    whole h {M} w i =
         record {
-          words = rest-words lay M (drop (extent lay) m) w;
-          long = length-words lay M (drop (extent lay) m) w ∙ rw length-drop (omega arith);
+          words = rest-words lay M (drop (extent lay) m) w i;
+          long = length-words lay M (drop (extent lay) m) w i ∙ rw length-drop (omega arith);
         }
 
     sound-before : extent lay ≤ length m → T (not (badMachine lay c m)) → T (not (isSetUp c)) → Sound (machineOf lay m)
@@ -159,10 +152,10 @@ later-kept lay c m = go (call-way lay c m)
         (T-true (good lay m) (⊎-elim (λ n. absurd (T-not (not (isSetUp c)) n a)) (λ n. not-not (good lay m) n) (not-both (not (isSetUp c)) (not (good lay m)) b)))
 
     stepped : T (not (wrongSize lay c m)) → T (not (badMachine lay c m)) → {r : Result} → StepWay c (machineOf lay m) r
-        → In lay (r .machine) → Beyond lay m (words (r .machine) (drop (extent lay) m))
-    stepped n b (refuses _) i = whole (is-long lay c m n) (wholeOf lay m (is-long lay c m n))
+        → Room lay (r .machine) → Beyond lay m (words (r .machine) (drop (extent lay) m))
+    stepped n b (refuses _) i = whole (is-long lay c m n) (wholeOf lay m (is-long lay c m n)) i
     stepped n b (accepts e) i =
-        whole (is-long lay c m n) (whole-in (accepted-sound c (machineOf lay m) (sound-before (is-long lay c m n) b) (is-paged lay c m n) e .whole) i)
+        whole (is-long lay c m n) (accepted-sound c (machineOf lay m) (sound-before (is-long lay c m n) b) (is-paged lay c m n) e .whole) i
 
     go : {o : Outcomes} → CallWay lay c m o → Beyond lay m (o .buffer)
     go (sized _) = same

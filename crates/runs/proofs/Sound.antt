@@ -7,14 +7,13 @@ use native.Mathlib.Omega.{arith}
 use borrow.Author.Tests.{ne-eqb}
 use lib.ListN.{length}
 use Rattle.sets.specs.Inner.{_∈_}
-use Rattle.tables.specs.declared.Layout.{Layout}
 use Rattle.tables.specs.declared.Conf.{Conf}
 use Rattle.tables.specs.declared.Message.{Message}
 use Rattle.tables.specs.Kinds.{senderOf, manyOf}
 use Rattle.tables.specs.Tables.{Machine, noPage, noMessage, withSlots, isEmpty}
 use Rattle.tables.specs.Words.{messageWords}
 use Rattle.tables.proofs.All.{All, none, cons, all-map, length-withRow}
-use Rattle.tables.proofs.Whole.{Paged, Stocked, Whole, whole-in, whole-client, whole-directory, whole-replica, whole-slots}
+use Rattle.tables.proofs.Whole.{Paged, Stocked, Whole, whole-client, whole-directory, whole-replica, whole-slots}
 use Rattle.inspect.specs.Good.{zeros, eachRow, goodMessage, clientRow, directoryRow, replicaRow, slotRow, goodMachine}
 use Rattle.inspect.proofs.Tests.{and-l, and-r}
 use Rattle.inspect.proofs.Facts.{message-facts}
@@ -26,13 +25,9 @@ use Rattle.mail.specs.Slots.{freed}
 use Rattle.mail.proofs.Messages.{all-sent, all-placed, all-freed, length-placed}
 use Rattle.machine.specs.Effects.{Change, nothing, client, directory, replica, Effect, changed, applied}
 
--- the layout that has room for its directories
-abbrev pub layoutOf : Machine → Layout
-layoutOf M = record { directories = length (M .directories) }
-
 pub record Sound (M : Machine) : Type 0 where
   pub good : goodMachine M ≡ true
-  pub whole : Whole (layoutOf M) M
+  pub whole : Whole M
 
 -- ---- a test of each row that is not told the row's number
 
@@ -120,7 +115,7 @@ Fits k (replica r w) = (replicaRow k r w ≡ true) × Stocked w
 changed-sound : {M : Machine} (x : Change) → Sound M → Fits (M .conf) x → Sound (changed x M)
 changed-sound nothing z f = z
 changed-sound {M} (client c w) z f = record { good = good-client M (z .good) c w (f .0); whole = whole-client (z .whole) c w (f .1) }
-changed-sound {M} (directory d w) z f = record { good = good-directory M (z .good) d w f; whole = whole-in (whole-directory (z .whole) d w) refl }
+changed-sound {M} (directory d w) z f = record { good = good-directory M (z .good) d w f; whole = whole-directory (z .whole) d w }
 changed-sound {M} (replica r w) z f = record { good = good-replica M (z .good) r w (f .0); whole = whole-replica (z .whole) r w (f .1) }
 
 pub changed-conf : (x : Change) (M : Machine) → changed x M .conf ≡ M .conf

@@ -21,7 +21,7 @@ use Rattle.tables.proofs.All.{All, none, cons, all-of, all-map}
 use Rattle.tables.proofs.Table.{Wide, wider, take-cells, set-put, length-rows, rows-same, rows-set, rowsOf-back, rowsWords-back}
 use Rattle.tables.proofs.Blocks.{offset, joined-drop, block-all, block-put, block-set}
 use Rattle.tables.proofs.Read.{client-words, directory-words, message-words, replica-words}
-use Rattle.tables.proofs.Whole.{Paged, Stocked, Whole, replica-stocked}
+use Rattle.tables.proofs.Whole.{Paged, Stocked, Whole, Room, replica-stocked}
 
 -- ---- the width of each row
 
@@ -79,7 +79,7 @@ stocks-back none s t = refl
 stocks-back (cons {x = r} {xs = rs} p ps) s t =
     rw (append-assoc (replicaWords r) (rowsWords replicaWords rs) t, entries-back r (rowsWords replicaWords rs ++ t) p, drop-at (replicaWords r) (rowsWords replicaWords rs ++ t) 240 (replica-wide r p), stocks-back ps s t)
 
-module _ (lay : Layout) (M : Machine) (t : List ℕ) (z : Whole lay M) where
+module _ (lay : Layout) (M : Machine) (t : List ℕ) (z : Whole M) (room : Room lay M) where
   clients-wide : Wide clientWords 24 (M .clients)
   clients-wide = all-map client-wide (z .client-pages)
 
@@ -99,7 +99,7 @@ module _ (lay : Layout) (M : Machine) (t : List ℕ) (z : Whole lay M) where
   clients-long = length-rows clientWords 24 clients-wide ∙ ap (λ (n : ℕ). n * 24) (z .clients)
 
   directories-long : length (rowsWords directoryWords (M .directories)) ≡ lay .directories * 4
-  directories-long = length-rows directoryWords 4 directories-wide ∙ ap (λ (n : ℕ). n * 4) (z .directories)
+  directories-long = length-rows directoryWords 4 directories-wide ∙ ap (λ (n : ℕ). n * 4) room
 
   downs-long : length (rowsWords downWords (M .replicas)) ≡ 7
   downs-long = length-rows downWords 1 downs-wide ∙ ap (λ (n : ℕ). n * 1) (z .replicas)
@@ -169,7 +169,7 @@ module _ (lay : Layout) (M : Machine) (t : List ℕ) (z : Whole lay M) where
   unfolding directoriesOf blocks joined
   directories-back =
       rw (from 3 208 at-directories)
-      (rowsOf-back directoryWords 4 directoryOf (λ x p. directory-wide x) directory-back (all-of (λ x. tt) (M .directories)) (lay .directories) _ (z .directories))
+      (rowsOf-back directoryWords 4 directoryOf (λ x p. directory-wide x) directory-back (all-of (λ x. tt) (M .directories)) (lay .directories) _ room)
 
   gap-back : take 5 (drop (gapAt lay) (words M t)) ≡ M .gap
   unfolding blocks joined
@@ -206,7 +206,7 @@ module _ (lay : Layout) (M : Machine) (t : List ℕ) (z : Whole lay M) where
 
   pub put-directory : (i : ℕ) (x : Directory) → i < lay .directories → put (words M t) (208 + i * 4) (directoryWords x) ≡ words (withDirectory M (suc i) x) t
   unfolding words blocks
-  put-directory i x h = block-set directoryWords 4 (blocks M t) 3 208 (omega arith) at-directories directories-wide refl i x (rw (z .directories) h) (directory-wide x)
+  put-directory i x h = block-set directoryWords 4 (blocks M t) 3 208 (omega arith) at-directories directories-wide refl i x (rw room h) (directory-wide x)
 
   -- the slots are written as one block
   pub put-slots : (xs : List Message) → length (rowsWords messageWords xs) ≡ 3072

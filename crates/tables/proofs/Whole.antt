@@ -1,4 +1,4 @@
--- A machine with as many rows as the tables have, and with pages of 16 words: what each replaced row keeps.
+-- A machine with as many rows as the tables have, the directories apart, and with pages of 16 words: what each replaced row keeps. How many directories there is room for, the layout says.
 use mathlib.Core.Path.{_≡_, refl, _∙_}
 use mathlib.Core.List.{List}
 use Prim.Native.Nat.{ℕ, zero, suc, _+_, _*_, _≤_}
@@ -17,7 +17,7 @@ use Rattle.tables.specs.Inner.{withDown, withEntry}
 use Rattle.tables.specs.Machines.{clientOf, entryOf, messageOf, clientsOf, slotsOf, entriesOf, replicasOf, machineOf}
 use Rattle.tables.proofs.All.{All, none, cons, all-replicate, all-row, all-withRow, length-withRow}
 use Rattle.tables.proofs.Table.{wider, rowsOf-all}
-use Rattle.tables.proofs.Read.{clients-many, entries-many, its-room, its-replicas, its-slots}
+use Rattle.tables.proofs.Read.{clients-many, entries-many, its-replicas, its-slots}
 
 -- a page is 16 words
 abbrev pub Paged : Page → Type 0
@@ -28,10 +28,9 @@ pub record Stocked (r : Replica) : Type 0 where
   pub many : length (r .entries) ≡ 12
   pub pages : All (λ (e : Entry). Paged (e .page)) (r .entries)
 
-pub record Whole (lay : Layout) (M : Machine) : Type 0 where
+pub record Whole (M : Machine) : Type 0 where
   pub spare : length (M .spare) ≡ 9
   pub clients : length (M .clients) ≡ 8
-  pub directories : length (M .directories) ≡ lay .directories
   pub gap : length (M .gap) ≡ 5
   pub replicas : length (M .replicas) ≡ 7
   pub slots : length (M .slots) ≡ 128
@@ -39,20 +38,9 @@ pub record Whole (lay : Layout) (M : Machine) : Type 0 where
   pub stocks : All Stocked (M .replicas)
   pub slot-pages : All (λ (x : Message). Paged (x .page)) (M .slots)
 
--- in the layout that has room for as many directories
-pub whole-in : {x lay : Layout} {M : Machine} → Whole x M → length (M .directories) ≡ lay .directories → Whole lay M
-whole-in z e =
-    record {
-      spare = z .spare;
-      clients = z .clients;
-      directories = e;
-      gap = z .gap;
-      replicas = z .replicas;
-      slots = z .slots;
-      client-pages = z .client-pages;
-      stocks = z .stocks;
-      slot-pages = z .slot-pages;
-    }
+-- as many directories as the layout has room for
+abbrev pub Room : Layout → Machine → Type 0
+Room lay M = length (M .directories) ≡ lay .directories
 
 -- ---- a machine that is read is whole
 
@@ -71,13 +59,12 @@ stocks-read (suc n) flags l h =
     let h′ : 240 + n * 240 ≤ length l = rw (wider n 240) at h in
     cons (stocked-read _ l (omega arith)) (stocks-read n (drop 1 flags) (drop 240 l) (rw length-drop (omega arith)))
 
-pub wholeOf : (lay : Layout) (m : List ℕ) → extent lay ≤ length m → Whole lay (machineOf lay m)
+pub wholeOf : (lay : Layout) (m : List ℕ) → extent lay ≤ length m → Whole (machineOf lay m)
 unfolding machineOf clientsOf slotsOf clientOf messageOf
 wholeOf lay m h =
     record {
       spare = length-take-le 9 (drop 7 m) (rw length-drop (omega arith));
       clients = clients-many (drop 16 m);
-      directories = its-room lay m;
       gap = length-take-le 5 (drop (gapAt lay) m) (rw length-drop (omega arith));
       replicas = its-replicas lay m;
       slots = its-slots lay m;
@@ -106,7 +93,7 @@ blank-replica = record { many = refl; pages = all-replicate 12 noEntry blank-ent
 
 -- ---- rows of a whole machine, also where there is none of that number; and a row replaced
 
-module _ {lay : Layout} {M : Machine} (z : Whole lay M) where
+module _ {M : Machine} (z : Whole M) where
   pub client-paged : (c : ℕ) → Paged (clientAt M c .page)
   client-paged c = all-row noClient c blank-client (z .client-pages)
 
@@ -119,12 +106,11 @@ module _ {lay : Layout} {M : Machine} (z : Whole lay M) where
   pub entry-paged : (r e : ℕ) → Paged (row noEntry (replicaAt M r .entries) e .page)
   entry-paged r e = all-row noEntry e blank-entry (replica-stocked r .pages)
 
-  pub whole-client : (c : ℕ) (x : Client) → Paged (x .page) → Whole lay (withClient M c x)
+  pub whole-client : (c : ℕ) (x : Client) → Paged (x .page) → Whole (withClient M c x)
   whole-client c x p =
       record {
         spare = z .spare;
         clients = length-withRow (M .clients) c x ∙ z .clients;
-        directories = z .directories;
         gap = z .gap;
         replicas = z .replicas;
         slots = z .slots;
@@ -133,12 +119,11 @@ module _ {lay : Layout} {M : Machine} (z : Whole lay M) where
         slot-pages = z .slot-pages;
       }
 
-  pub whole-directory : (d : ℕ) (x : Directory) → Whole lay (withDirectory M d x)
+  pub whole-directory : (d : ℕ) (x : Directory) → Whole (withDirectory M d x)
   whole-directory d x =
       record {
         spare = z .spare;
         clients = z .clients;
-        directories = length-withRow (M .directories) d x ∙ z .directories;
         gap = z .gap;
         replicas = z .replicas;
         slots = z .slots;
@@ -147,12 +132,11 @@ module _ {lay : Layout} {M : Machine} (z : Whole lay M) where
         slot-pages = z .slot-pages;
       }
 
-  pub whole-replica : (r : ℕ) (x : Replica) → Stocked x → Whole lay (withReplica M r x)
+  pub whole-replica : (r : ℕ) (x : Replica) → Stocked x → Whole (withReplica M r x)
   whole-replica r x p =
       record {
         spare = z .spare;
         clients = z .clients;
-        directories = z .directories;
         gap = z .gap;
         replicas = length-withRow (M .replicas) r x ∙ z .replicas;
         slots = z .slots;
@@ -161,21 +145,20 @@ module _ {lay : Layout} {M : Machine} (z : Whole lay M) where
         slot-pages = z .slot-pages;
       }
 
-  pub whole-down : (r x : ℕ) → Whole lay (withDown M r x)
+  pub whole-down : (r x : ℕ) → Whole (withDown M r x)
   whole-down r x =
       let s = replica-stocked r in whole-replica r _ (record { many = s .many; pages = s .pages })
 
-  pub whole-entry : (r e : ℕ) (x : Entry) → Paged (x .page) → Whole lay (withEntry M r e x)
+  pub whole-entry : (r e : ℕ) (x : Entry) → Paged (x .page) → Whole (withEntry M r e x)
   whole-entry r e x p =
       let s = replica-stocked r in
       whole-replica r _ (record { many = length-withRow (replicaAt M r .entries) e x ∙ s .many; pages = all-withRow e x p (s .pages) })
 
-  pub whole-slots : (ss : List Message) → length ss ≡ 128 → All (λ (x : Message). Paged (x .page)) ss → Whole lay (withSlots M ss)
+  pub whole-slots : (ss : List Message) → length ss ≡ 128 → All (λ (x : Message). Paged (x .page)) ss → Whole (withSlots M ss)
   whole-slots ss e ps =
       record {
         spare = z .spare;
         clients = z .clients;
-        directories = z .directories;
         gap = z .gap;
         replicas = z .replicas;
         slots = e;
