@@ -37,7 +37,7 @@ eachRow test n (x ∷ xs) = test n x && eachRow test (suc n) xs
 
 -- ---- "Numbers and parties"
 
--- a machine has room for n directories
+-- "directories nd: 1 to 5" in a machine with 5 rows for them, and 1 to n in one with n
 unfoldable pub goodNumbers : ℕ → Conf → Bool
 goodNumbers n k =
     between 1 8 (k .clients)

@@ -62,7 +62,7 @@ pub fn directory(k: Conf, used: bool, l: &[u32]) -> bool
     fields::zero(l)
 }
 
-// n rows.
+// A table of n rows.
 pub fn directories(k: Conf, n: usize, l: &[u32]) -> bool
     requires { ⌜ (n * 4 ≤ length (now l)) × (n ≤ 16) × Few k ⌝ }
     ensures { λ r. ⌜ r ≡ eachRow (directoryRow k) 1 (directoriesOf n (now (l .entry))) ⌝ }
@@ -89,7 +89,7 @@ pub fn replica(k: Conf, used: bool, down: u32, l: &[u32]) -> bool
     (down == 0) & fields::zero(l)
 }
 
-// Their down flags, and their entries.
+// Two tables: the down flags, and the entries.
 pub fn replicas(k: Conf, flags: &[u32], l: &[u32]) -> bool
     requires { ⌜ (7 ≤ length (now flags)) × (1680 ≤ length (now l)) ⌝ }
     ensures { λ r. ⌜ r ≡ eachRow (replicaRow k) 1 (replicasOf 7 (now (flags .entry)) (now (l .entry))) ⌝ }
