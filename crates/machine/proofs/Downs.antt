@@ -3,12 +3,11 @@ use mathlib.Core.Path.{_≡_, refl, _∙_}
 use mathlib.Core.Bool.{Bool, true, false, not}
 use mathlib.Core.List.{List, [], _∷_}
 use Prim.Native.Nat.{ℕ, zero, suc, _+_, _*_, _-_, _≤_, _<_}
-use native.Mathlib.Nat.{mul-le-mul-right, add-zero}
+use native.Mathlib.Nat.{mul-le-mul-right}
 use native.Mathlib.Omega.{arith}
 use borrow.Author.Tests.{eq-eqb, ne-eqb}
 use lib.Dec.{eqb}
 use lib.ListN.{length, getD, take, drop}
-use lib.Seq.{getD-drop}
 use Rattle.sets.specs.Plain.{if_then_else_}
 use Rattle.tables.specs.Layouts.{flagsAt, entriesAt}
 use Rattle.tables.specs.declared.Layout.{Layout}
@@ -16,7 +15,7 @@ use Rattle.tables.specs.Rows.{count}
 use Rattle.tables.specs.Machines.{rowsOf, clientsOf, directoriesOf, clientOf, directoryOf, replicasOf, machineOf}
 use Rattle.tables.specs.Tables.{isEmpty}
 use Rattle.tables.proofs.Read.{its-slots}
-use Rattle.tables.proofs.Parts.{rest-all}
+use Rattle.tables.proofs.Parts.{first-word, rest-all}
 use Rattle.tables.proofs.Table.{wider, length-rowsOf, getD-rowsOf}
 use Rattle.mail.specs.Slots.{emptySlots}
 use Rattle.mail.proofs.Messages.{count-le}
@@ -39,7 +38,7 @@ module _ (l : List ℕ) (w n i : ℕ) where
 
   word-is : i < n → getD (firstWords l w n) i 0 ≡ getD l (i * w) 0
   unfolding firstWords
-  word-is h = getD-rowsOf firstWord n w l i 0 h ∙ getD-drop (i * w) l 0 0 ∙ rw (add-zero (i * w))
+  word-is h = getD-rowsOf firstWord n w l i 0 h ∙ first-word l (i * w)
 
   -- a turn of the loop, with d rows counted
   module _ (d t : ℕ) (e : d + count isOne (drop i (firstWords l w n)) ≡ t) where

@@ -3,11 +3,11 @@ use mathlib.Core.Path.{_≡_, sym, ap, _∙_}
 use mathlib.Core.Bool.{true, false}
 use mathlib.Core.List.{List, _++_}
 use Prim.Native.Nat.{ℕ, suc, _*_, _≤_, _<_}
-use native.Mathlib.Nat.{zero-add, add-zero}
+use native.Mathlib.Nat.{zero-add}
 use native.Mathlib.Omega.{arith}
 use borrow.Author.Tests.{eq-eqb, ne-eqb}
-use lib.ListN.{length, getD, drop, length-drop, take-append-drop}
-use lib.Seq.{drop-at, getD-drop, length-take-le}
+use lib.ListN.{length, getD, drop, take-append-drop}
+use lib.Seq.{drop-at}
 use Rattle.tables.specs.declared.Message.{Message}
 use Rattle.tables.specs.Rows.{rowsWords, withRow}
 use Rattle.tables.specs.Inner.{put}
@@ -15,11 +15,11 @@ use Rattle.tables.specs.Tables.{noMessage, isEmpty}
 use Rattle.tables.specs.Words.{messageWords}
 use Rattle.tables.specs.Machines.{messageOf, slotsOf}
 use Rattle.tables.proofs.All.{all-map}
-use Rattle.tables.proofs.Table.{Wide, rowsOf-all, rowsWords-back, length-rows, put-before, rows-set, rowsOf-back}
-use Rattle.tables.proofs.Parts.{length-put}
+use Rattle.tables.proofs.Table.{Wide, rowsWords-back, length-rows, put-before, rows-set, rowsOf-back}
+use Rattle.tables.proofs.Parts.{first-word, length-put}
 use Rattle.tables.proofs.Read.{message-words, slot-at, slots-many}
 use Rattle.tables.proofs.Round.{message-wide, message-back}
-use Rattle.tables.proofs.Whole.{Paged}
+use Rattle.tables.proofs.Whole.{Paged, slots-paged}
 use Rattle.mail.specs.Slots.{emptySlots}
 use Rattle.mail.specs.Inner.{withMail}
 use Rattle.mail.proofs.Messages.{count-le, Mail, mail-row}
@@ -32,7 +32,7 @@ few-empty l = omega (arith, count-le isEmpty (slotsOf l), slots-many l)
 module _ (l : List ℕ) (s : ℕ) (h : s < 128) where
   kind-word : getD (slotsOf l) s noMessage .kind ≡ getD l (s * 24) 0
   unfolding messageOf
-  kind-word = ap (λ (x : Message). x .kind) (slot-at l s h) ∙ getD-drop (s * 24) l 0 0 ∙ rw (add-zero (s * 24))
+  kind-word = ap (λ (x : Message). x .kind) (slot-at l s h) ∙ first-word l (s * 24)
 
   pub slot-empty : getD l (s * 24) 0 ≡ 0 → isEmpty (getD (slotsOf l) s noMessage) ≡ true
   slot-empty e = eq-eqb _ _ (kind-word ∙ e)
@@ -42,13 +42,8 @@ module _ (l : List ℕ) (s : ℕ) (h : s < 128) where
 
 -- ---- slots that are read
 
-page-read : (q : List ℕ) → 24 ≤ length q → Paged (messageOf q .page)
-unfolding messageOf
-page-read q h = length-take-le 16 (drop 8 q) (rw length-drop (omega arith))
-
 pub mail-read : (l : List ℕ) → 3072 ≤ length l → Mail (slotsOf l)
-unfolding slotsOf
-mail-read l h = record { many = slots-many l; pages = rowsOf-all messageOf 128 24 l page-read h }
+mail-read l h = record { many = slots-many l; pages = slots-paged l h }
 
 -- ---- slots that are written
 

@@ -3,19 +3,14 @@ use mathlib.Core.Path.{_≡_, sym, ap, _∙_}
 use mathlib.Core.Bool.{Bool, true, false}
 use mathlib.Core.List.{List}
 use Prim.Native.Nat.{ℕ, _*_, _-_, _<_}
-use native.Mathlib.Nat.{add-zero}
 use borrow.Author.Tests.{eq-eqb, ne-eqb}
 use lib.ListN.{length, getD, take, drop}
-use lib.Seq.{getD-drop}
 use Rattle.sets.specs.declared.Tag.{Tag}
 use Rattle.tables.specs.declared.Entry.{Entry}
 use Rattle.tables.specs.Tables.{noEntry, isFree, hasTag}
 use Rattle.tables.specs.Machines.{entryOf, entriesOf}
 use Rattle.tables.proofs.Read.{entry-at}
-use Rattle.tables.proofs.Parts.{rest-all}
-
-first-word : (l : List ℕ) (at : ℕ) → getD (drop at l) 0 0 ≡ getD l at 0
-first-word l at = getD-drop at l 0 0 ∙ rw (add-zero at)
+use Rattle.tables.proofs.Parts.{first-word, rest-all}
 
 module _ (l : List ℕ) (j : ℕ) (h : j < 12) where
   state-word : getD (entriesOf l) j noEntry .state ≡ getD l (j * 20) 0

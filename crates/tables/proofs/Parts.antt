@@ -2,11 +2,11 @@
 use mathlib.Core.Path.{_≡_, refl, ap, _∙_}
 use mathlib.Core.List.{List, [], _∷_, _++_, append-nil, append-assoc}
 use Prim.Native.Nat.{ℕ, zero, suc, _+_, _-_, _≤_, _<_}
-use native.Mathlib.Nat.{le-refl, add-sub-cancel-left, zero-add, not-suc-le-zero, le-of-suc-le-suc}
+use native.Mathlib.Nat.{le-refl, add-sub-cancel-left, zero-add, add-zero, not-suc-le-zero, le-of-suc-le-suc}
 use native.Mathlib.Numerals.{add-one}
 use native.Mathlib.Omega.{arith}
 use lib.ListN.{length, getD, set, take, drop, length-append, length-drop, length-set, drop-of-length-le}
-use lib.Seq.{take-all, take-length, take-at, drop-at, drop-drop, take-take, length-take-le}
+use lib.Seq.{getD-drop, take-all, take-length, take-at, drop-at, drop-drop, take-take, length-take-le}
 use Rattle.tables.specs.Inner.{put}
 
 pub length-put : (l : List ℕ) (at : ℕ) (r : List ℕ) → at + length r ≤ length l → length (put l at r) ≡ length l
@@ -61,6 +61,9 @@ pub length-cut : (l : List ℕ) (at n : ℕ) → at + n ≤ length l → length 
 length-cut l at n h = length-take-le n (drop at l) (rw length-drop (omega arith))
 
 -- ---- a part that runs to the end, `l[at..]`
+
+pub first-word : (l : List ℕ) (at : ℕ) → getD (drop at l) 0 0 ≡ getD l at 0
+first-word l at = getD-drop at l 0 0 ∙ rw (add-zero at)
 
 pub rest-all : (l : List ℕ) (at : ℕ) → take (length l - at) (drop at l) ≡ drop at l
 rest-all l at = take-all (length l - at) (drop at l) (rw length-drop (le-refl (length l - at)))

@@ -59,8 +59,12 @@ stocks-read (suc n) flags l h =
     let h′ : 240 + n * 240 ≤ length l = rw (wider n 240) at h in
     cons (stocked-read _ l (omega arith)) (stocks-read n (drop 1 flags) (drop 240 l) (rw length-drop (omega arith)))
 
+pub slots-paged : (l : List ℕ) → 3072 ≤ length l → All (λ (x : Message). Paged (x .page)) (slotsOf l)
+unfolding slotsOf messageOf
+slots-paged l h = rowsOf-all messageOf 128 24 l (page-read 8) h
+
 pub wholeOf : (lay : Layout) (m : List ℕ) → extent lay ≤ length m → Whole (machineOf lay m)
-unfolding machineOf clientsOf slotsOf clientOf messageOf
+unfolding machineOf clientsOf clientOf
 wholeOf lay m h =
     record {
       spare = length-take-le 9 (drop 7 m) (rw length-drop (omega arith));
@@ -70,7 +74,7 @@ wholeOf lay m h =
       slots = its-slots lay m;
       client-pages = rowsOf-all clientOf 8 24 (drop 16 m) (page-read 8) (rw length-drop (omega arith));
       stocks = stocks-read 7 (drop (flagsAt lay) m) (drop (entriesAt lay) m) (rw length-drop (omega arith));
-      slot-pages = rowsOf-all messageOf 128 24 (drop (slotsAt lay) m) (page-read 8) (rw length-drop (omega arith));
+      slot-pages = slots-paged (drop (slotsAt lay) m) (rw length-drop (omega arith));
     }
 
 -- ---- blank rows
