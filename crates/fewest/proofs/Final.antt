@@ -1,0 +1,163 @@
+-- HOW FEW DELIVERIES WILL DO, over a lent buffer: any buffer, an accepted set-up, any calls after it, and then what is asked.
+use mathlib.Core.Path.{_≡_, refl, sym, ap, subst, _∙_}
+use mathlib.Core.Bool.{Bool, true, false, not}
+use mathlib.Core.List.{List, [], _∷_}
+use mathlib.Core.Logic.{inl, inr}
+use Prim.Native.Nat.{ℕ, suc, _+_, _*_, _^_, _≤_, _<_}
+use native.Mathlib.Omega.{arith}
+use borrow.Author.Tests.{eq-eqb}
+use lib.Dec.{T}
+use lib.ListN.{length}
+use Rattle.sets.specs.Plain.{if_then_else_}
+use Rattle.sets.specs.Sets.{size, all}
+use Rattle.sets.proofs.Laws.{size-all}
+use Rattle.tables.specs.declared.Layout.{Layout}
+use Rattle.tables.specs.declared.Conf.{Conf}
+use Rattle.tables.specs.declared.Client.{Client}
+use Rattle.tables.specs.Tables.{Page, Machine, noPage, clientAt}
+use Rattle.tables.specs.Machines.{machineOf}
+use Rattle.tables.proofs.Whole.{Paged}
+use Rattle.rules.specs.Answers.{coded}
+use Rattle.rules.specs.declared.Answer.{Answer}
+use Rattle.rules.specs.Client.{started, request}
+use Rattle.machine.specs.Effects.{client, applied}
+use Rattle.machine.specs.Calls.{Call, setUp, startRead, startWrite, deliver, done}
+use Rattle.machine.specs.Steps.{Result, pageIn, refused, step}
+use Rattle.machine.specs.Buffers.{wrongPage, call}
+use Rattle.runs.proofs.Runs.{sizedStep}
+use Rattle.runs.proofs.Rows.{numbers-of}
+use Rattle.history.proofs.Walk.{Good}
+use Rattle.fewest.specs.Fewest.{leastToRead, leastToWrite, readPrice, writePrice, bufferAfter, Answers, delivering, Takes, Ready, ReadyToWrite}
+use Rattle.fewest.proofs.Quorums.{mostDirectories}
+use Rattle.fewest.proofs.Spent.{priceOf}
+use Rattle.fewest.proofs.Held.{step-good, Held, held-answer, held-call, held-good, held-few, held-reached}
+use Rattle.fewest.proofs.Least.{no-fewer}
+use Rattle.fewest.proofs.Serve.{paged}
+use Rattle.fewest.proofs.Turn.{to-1, to-4}
+use Rattle.fewest.proofs.Rounds.{Ends, last, more}
+use Rattle.fewest.proofs.Start.{opens, read-starts, write-starts}
+use Rattle.fewest.proofs.Phases.{small-all, one, four}
+
+-- ---- a sequence of deliveries on a buffer
+
+sized-is : (q : Call) (M : Machine) → T (not (wrongPage q)) → sizedStep q M ≡ step q M
+sized-is q M h = go (wrongPage q) h
+  where
+    go : (b : Bool) → T (not b) → (if b then refused 16 (pageIn q) M else step q M) ≡ step q M
+    go true h = absurd h
+    go false h = refl
+
+module _ (lay : Layout) (code c : ℕ) where
+  -- a call with a page of 16 words is the step
+  answer-is : (q : Call) {M : Machine} {m : List ℕ} → Held lay M m → T (not (wrongPage q)) → call lay q m .answer ≡ step q M .answer
+  answer-is q {M} H h = held-answer lay q H ∙ ap (λ (r : Result). r .answer) (sized-is q M h)
+
+  held-step : (q : Call) {M : Machine} {m : List ℕ} → Held lay M m → T (not (wrongPage q)) → Held lay (step q M .machine) (call lay q m .buffer)
+  held-step q {M} {m} H h = subst (λ (r : Result). Held lay (r .machine) (call lay q m .buffer)) (sized-is q M h) (held-call lay q H)
+
+  slots-of : {n : ℕ} {M : Machine} → Ends code c n M → List ℕ
+  slots-of (last s _ _) = s ∷ []
+  slots-of (more s e) = s ∷ slots-of e
+
+  many-slots : {n : ℕ} {M : Machine} → (e : Ends code c n M) → length (slots-of e) ≡ n
+  unfolding slots-of
+  many-slots (last s _ _) = refl
+  many-slots (more s e) = ap suc (many-slots e)
+
+  ends-so : {n : ℕ} {M : Machine} (e : Ends code c n M) {m : List ℕ} → Held lay M m → Answers lay code c m (delivering (slots-of e))
+  unfolding slots-of
+  ends-so (last s p q) H =
+      let a = answer-is (deliver s noPage) H (paged s) in
+      inl (ap (λ (x : Answer). x .code) a ∙ p, ap (λ (x : Answer). x .client) a ∙ q)
+  ends-so (more s e) H = inr (ends-so e (held-step (deliver s noPage) H (paged s)))
+
+-- ---- from a good machine
+
+priced : (k : Conf) (c : ℕ) {N : Machine} → Ends 2 c (2 * leastToRead k + (2 * (k .f + 1) + 2 * leastToWrite k)) N → Ends 2 c (writePrice k) N
+priced k c {N} e = subst (λ (z : ℕ). Ends 2 c z N) (omega arith) e
+
+module _ (M : Machine) (G : Good M) (few-directories : M .conf .directories ≤ 16) (c : ℕ) (R : Ready M c) where
+  few : all (M .conf .directories) < 2 ^ 16
+  few = small-all (M .conf .directories) few-directories
+
+  most : size (all (M .conf .directories)) ≤ mostDirectories M
+  most = omega (arith, numbers-of (G .sound) .few-directories, size-all (M .conf .directories))
+
+  some-top : 0 < M .conf .top
+  some-top = omega (arith, numbers-of (G .sound) .some-rounds)
+
+  -- start read
+  abbrev first : Client
+  first = started (clientAt M c) 1 noPage
+
+  to-all : request (M .conf) c first .to ≡ all (M .conf .directories)
+  to-all = to-1 (M .conf) c first refl
+
+  read-begins : step (startRead c) M ≡ record { answer = coded 0; page = []; machine = applied (done (client c first) (request (M .conf) c first)) M }
+  read-begins = read-starts M G c R (rw to-all few) (rw to-all most)
+
+  read-ends : Ends 1 c (readPrice (M .conf)) (step (startRead c) M .machine)
+  read-ends =
+      let e = ap (λ (r : Result). r .machine) read-begins in
+      let o = opens M G c R 1 noPage (rw to-all few) (rw to-all most) tt some-top (subst Good e (step-good (startRead c) M G tt)) in
+      subst (Ends 1 c (readPrice (M .conf))) (sym e) (one M G few-directories c R (o .kept) o)
+
+  -- start write
+  module _ (page : Page) where
+    abbrev fourth : Client
+    fourth = started (clientAt M c) 4 page
+
+    to-each : request (M .conf) c fourth .to ≡ all (M .conf .directories)
+    to-each = to-4 (M .conf) c fourth refl
+
+    write-begins : step (startWrite c page) M ≡ record { answer = coded 0; page = []; machine = applied (done (client c fourth) (request (M .conf) c fourth)) M }
+    write-begins = write-starts M G c R page (rw to-each few) (rw to-each most)
+
+    write-ends : T (not (wrongPage (startWrite c page))) → ReadyToWrite M c → Ends 2 c (writePrice (M .conf)) (step (startWrite c page) M .machine)
+    write-ends h W =
+        let e = ap (λ (r : Result). r .machine) write-begins in
+        let o = opens M G c R 4 page (rw to-each few) (rw to-each most) tt some-top (subst Good e (step-good (startWrite c page) M G h)) in
+        subst (Ends 2 c (writePrice (M .conf))) (sym e) (priced (M .conf) c (four M G few-directories c R W o))
+
+-- ---- THE THEOREMS
+
+module _ (lay : Layout) (few : lay .directories ≤ 16) (c : ℕ) {M : Machine} {m : List ℕ} (H : Held lay M m) (R : Ready M c) where
+  takes : (code : ℕ) (q : Call) → T (not (wrongPage q)) → step q M .answer .code ≡ 0 → Ends code c (priceOf (M .conf) code) (step q M .machine)
+      → Takes lay (priceOf (M .conf) code) q code c m
+  takes code q w a e =
+      record {
+        starts = ap (λ (x : Answer). x .code) (answer-is lay code c q H w) ∙ a;
+        slots = slots-of lay code c e;
+        many = many-slots lay code c e;
+        ends = ends-so lay code c e (held-step lay code c q H w);
+        least = no-fewer lay few code c H (record { low = R .low; high = R .high }) (R .idle);
+      }
+
+  good : Good M
+  good = held-good lay H
+
+  read-held : Takes lay (readPrice (M .conf)) (startRead c) 1 c m
+  read-held =
+      let f = held-few lay few H in
+      takes 1 (startRead c) tt (ap (λ (r : Result). r .answer .code) (read-begins M good f c R)) (read-ends M good f c R)
+
+  write-held : (page : Page) → Paged page → ReadyToWrite M c → Takes lay (writePrice (M .conf)) (startWrite c page) 2 c m
+  write-held page q W =
+      let f = held-few lay few H in
+      let w : T (not (wrongPage (startWrite c page))) = rw (eq-eqb (length page) 16 q) tt in
+      takes 2 (startWrite c page) w (ap (λ (r : Result). r .answer .code) (write-begins M good f c R page)) (write-ends M good f c R page w W)
+
+-- any layout of at most 16 directory rows, any buffer, an accepted set-up with first page p, any calls after it
+module _ (lay : Layout) (few : lay .directories ≤ 16) (m : List ℕ) (k : Conf) (p : Page) (accepted : call lay (setUp k p) m .answer .code ≡ 0)
+    (before : List Call) (c : ℕ) where
+  abbrev pub reached : List ℕ
+  reached = bufferAfter lay (call lay (setUp k p) m .buffer) before
+
+  -- a read takes 2rq + 2wq + 2 deliveries
+  pub read-takes : Ready (machineOf lay reached) c → Takes lay (readPrice (machineOf lay reached .conf)) (startRead c) 1 c reached
+  read-takes R = read-held lay few c (held-reached lay m k p accepted before) R
+
+  -- a write 2rq + 2wq + 2f + 2
+  pub write-takes : (page : Page) → Paged page → ReadyToWrite (machineOf lay reached) c
+      → Takes lay (writePrice (machineOf lay reached .conf)) (startWrite c page) 2 c reached
+  write-takes page q W = write-held lay few c (held-reached lay m k p accepted before) (W .ready) page q W

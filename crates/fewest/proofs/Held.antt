@@ -1,0 +1,140 @@
+-- A buffer reached from an accepted set-up holds the words of a machine with history's invariant, and every call keeps it so.
+use mathlib.Core.Path.{_≡_, refl, sym, ap, subst, _∙_}
+use mathlib.Core.Bool.{Bool, true, false, not, false≢true}
+use mathlib.Core.List.{List, [], _∷_}
+use Prim.Native.Nat.{ℕ, _≤_}
+use native.Mathlib.Omega.{arith}
+use lib.Dec.{T, eqb, eqb→eq}
+use lib.ListN.{length, drop}
+use Rattle.sets.proofs.Tests.{T-true, not-not, if-ind}
+use Rattle.tables.specs.declared.Layout.{Layout}
+use Rattle.tables.specs.declared.Conf.{Conf}
+use Rattle.tables.specs.Tables.{Page, Machine}
+use Rattle.tables.specs.Words.{words}
+use Rattle.tables.specs.Layouts.{extent}
+use Rattle.tables.specs.Machines.{machineOf}
+use Rattle.tables.proofs.Read.{its-room}
+use Rattle.tables.proofs.Whole.{Room}
+use Rattle.tables.proofs.Round.{machine-back}
+use Rattle.inspect.specs.Good.{goodNumbers}
+use Rattle.machine.specs.Effects.{Effect, applied}
+use Rattle.machine.specs.Calls.{Call, setUp, startRead, startWrite, deliver, gossip, tidy, crash, report}
+use Rattle.machine.specs.Steps.{Result, newMachine, effectOf, accepted, step}
+use Rattle.machine.specs.Buffers.{wrongPage, isSetUp, Outcomes, call}
+use Rattle.runs.proofs.Ways.{codeOf, StepWay, refuses, accepts, step-way, allowed, CallWay, sized, bad, steps, call-way, is-paged}
+use Rattle.runs.proofs.Sound.{Sound}
+use Rattle.runs.proofs.New.{new-room}
+use Rattle.runs.proofs.Reached.{step-sound}
+use Rattle.runs.proofs.Rows.{numbers-of}
+use Rattle.runs.proofs.Runs.{sizedStep, sized-room, call-is}
+use Rattle.history.specs.Show.{Renews}
+use Rattle.history.proofs.Invariant.{Invariant}
+use Rattle.history.proofs.Acts.{Acts, acts}
+use Rattle.history.proofs.Kept.{invariant-acts}
+use Rattle.history.proofs.Walk.{Good}
+use Rattle.history.proofs.Fresh.{fresh}
+use Rattle.fewest.specs.Fewest.{bufferAfter}
+
+-- ---- steps
+
+new-good : (n : ℕ) (k : Conf) (p : Page) → T (not (wrongPage (setUp k p))) → T (not (not (goodNumbers n k))) → Good (newMachine n k p)
+new-good n k p w h = fresh n k p (T-true (goodNumbers n k) (not-not (goodNumbers n k) h)) (eqb→eq (length p) 16 (not-not (eqb (length p) 16) w)) .good
+
+not-renewing : (q : Call) (M : Machine) → T (not (isSetUp q)) → Renews q (effectOf q M .answer) → ⊥
+not-renewing (setUp k page) M n r = n
+not-renewing (startRead c) M n r = r .0
+not-renewing (startWrite c page) M n r = r .0
+not-renewing (deliver s page) M n r = r .0
+not-renewing (gossip from to) M n r = r .0
+not-renewing (tidy i) M n r = r .0
+not-renewing (crash kind id) M n r = r .0
+not-renewing report M n r = r .0
+
+-- only set-up replaces the machine
+pub accepted-is : (q : Call) (M : Machine) (e : Effect) → T (not (isSetUp q)) → accepted q M e ≡ applied e M
+accepted-is (setUp k page) M e n = absurd n
+accepted-is (startRead c) M e n = refl
+accepted-is (startWrite c page) M e n = refl
+accepted-is (deliver s page) M e n = refl
+accepted-is (gossip from to) M e n = refl
+accepted-is (tidy i) M e n = refl
+accepted-is (crash kind id) M e n = refl
+accepted-is report M e n = refl
+
+-- what an accepted call but set-up does
+pub call-acts : (q : Call) (M : Machine) → Sound M → T (not (isSetUp q)) → codeOf q M ≡ 0 → Acts M q (effectOf q M)
+call-acts q M z n h = acts M z q (not-renewing q M n) h
+
+pub step-good : (q : Call) (M : Machine) → Good M → T (not (wrongPage q)) → Good (step q M .machine)
+step-good q M G w = record { sound = step-sound q M (G .sound) w; invariant = go (step-way q M) }
+  where
+    by : (q : Call) → T (not (wrongPage q)) → codeOf q M ≡ 0 → (b : Bool) → isSetUp q ≡ b → Invariant (accepted q M (effectOf q M))
+    by q w h false e = let n : T (not (isSetUp q)) = rw e tt in
+        subst Invariant (sym (accepted-is q M (effectOf q M) n)) (invariant-acts M (G .sound) (G .invariant) (call-acts q M (G .sound) n h))
+    by (setUp k page) w h true e = new-good (length (M .directories)) k page w (allowed (setUp k page) M h .argument) .invariant
+    by (startRead c) w h true e = absurd (false≢true e)
+    by (startWrite c page) w h true e = absurd (false≢true e)
+    by (deliver s page) w h true e = absurd (false≢true e)
+    by (gossip from to) w h true e = absurd (false≢true e)
+    by (tidy i) w h true e = absurd (false≢true e)
+    by (crash kind id) w h true e = absurd (false≢true e)
+    by report w h true e = absurd (false≢true e)
+
+    go : {r : Result} → StepWay q M r → Invariant (r .machine)
+    go (refuses _) = G .invariant
+    go (accepts h) = by q w h (isSetUp q) refl
+
+-- ---- buffers
+
+module _ (lay : Layout) where
+  -- the buffer has the words of a good machine
+  pub data Held : Machine → List ℕ → Type 0 where
+    held : {M : Machine} → Good M → Room lay M → (t : List ℕ) → Held M (words M t)
+
+  pub held-call : (q : Call) {M : Machine} {m : List ℕ} → Held M m → Held (sizedStep q M .machine) (call lay q m .buffer)
+  held-call q (held {M} G r t) =
+      subst (λ (o : Outcomes). Held (sizedStep q M .machine) (o .buffer)) (sym (call-is q r (G .sound) t))
+      (held (if-ind (λ (x : Result). Good (x .machine)) (wrongPage q) (λ _. G) (λ w. step-good q M G w)) (sized-room q M r) t)
+
+  pub held-answer : (q : Call) {M : Machine} {m : List ℕ} → Held M m → call lay q m .answer ≡ sizedStep q M .answer
+  held-answer q (held G r t) = ap (λ (o : Outcomes). o .answer) (call-is q r (G .sound) t)
+
+  pub held-machine : {M : Machine} {m : List ℕ} → Held M m → machineOf lay m ≡ M
+  held-machine (held {M} G r t) = machine-back lay M t (G .sound .whole) r
+
+  pub held-good : {M : Machine} {m : List ℕ} → Held M m → Good M
+  held-good (held G r t) = G
+
+  pub held-few : lay .directories ≤ 16 → {M : Machine} {m : List ℕ} → Held M m → M .conf .directories ≤ 16
+  held-few f (held G r t) = omega (arith, numbers-of (G .sound) .few-directories)
+
+  abbrev Holds : List ℕ → Type 0
+  Holds m = Held (machineOf lay m) m
+
+  its-own : {M : Machine} {m : List ℕ} → Held M m → Holds m
+  its-own {M} {m} h = subst (λ (N : Machine). Held N m) (sym (held-machine h)) h
+
+  -- an accepted set-up leaves such a buffer
+  held-new : (m : List ℕ) (k : Conf) (p : Page) → call lay (setUp k p) m .answer .code ≡ 0 → Holds (call lay (setUp k p) m .buffer)
+  held-new m k p = go (call-way lay (setUp k p) m)
+    where
+      rows : ℕ
+      rows = length (machineOf lay m .directories)
+
+      stepped : T (not (wrongPage (setUp k p))) → {r : Result} → StepWay (setUp k p) (machineOf lay m) r → r .answer .code ≡ 0 → Holds (words (r .machine) (drop (extent lay) m))
+      stepped w (refuses h) e = absurd (omega arith)
+      stepped w (accepts h) e =
+          its-own (held (new-good rows k p w (allowed (setUp k p) (machineOf lay m) h .argument)) (new-room rows k p ∙ its-room lay m) (drop (extent lay) m))
+
+      go : {o : Outcomes} → CallWay lay (setUp k p) m o → o .answer .code ≡ 0 → Holds (o .buffer)
+      go (sized _) e = absurd (omega arith)
+      go (bad _ b) e = absurd b
+      go (steps w _) e = stepped (is-paged lay (setUp k p) m w) (step-way (setUp k p) (machineOf lay m)) e
+
+  held-after : (qs : List Call) {m : List ℕ} → Holds m → Holds (bufferAfter lay m qs)
+  held-after [] h = h
+  held-after (q ∷ qs) h = held-after qs (its-own (held-call q h))
+
+  -- and so does every buffer after it
+  pub held-reached : (m : List ℕ) (k : Conf) (p : Page) → call lay (setUp k p) m .answer .code ≡ 0 → (qs : List Call) → Holds (bufferAfter lay (call lay (setUp k p) m .buffer) qs)
+  held-reached m k p e qs = held-after qs (held-new m k p e)

@@ -1,0 +1,104 @@
+-- How few deliveries will do: what is counted, what an operation costs, and what is asked before it.
+use Rattle.sets.specs.Plain.{_≡_, _⊎_, Bool, true, false, not, _&&_, ℕ, _+_, _*_, _<_, T, List, [], _∷_, map, length, keep, numbers}
+use Prim.Native.Nat.{_≤_}
+use Rattle.tables.specs.declared.Layout.{Layout}
+use Rattle.tables.specs.declared.Conf.{Conf}
+use Rattle.tables.specs.declared.Party.{Party}
+use Rattle.tables.specs.declared.Party.the-variants.{ADirectory, AReplica}
+use Rattle.tables.specs.Kinds.{manyOf}
+use Rattle.tables.specs.Rows.{some?, count}
+use Rattle.tables.specs.Tables.{Machine, noPage, clientAt, directoryAt, replicaAt, isFree}
+use Rattle.mail.specs.Slots.{emptySlots}
+use Rattle.machine.specs.Calls.{Call, setUp, startRead, startWrite, deliver, gossip, tidy, crash, report, isDown}
+use Rattle.machine.specs.Buffers.{isSetUp, call}
+
+-- ---- "Counted are the deliver calls of a sequence without set-up": refused ones too
+
+abbrev pub isDeliver : Call → Bool
+isDeliver (setUp k page) = false
+isDeliver (startRead c) = false
+isDeliver (startWrite c page) = false
+isDeliver (deliver s page) = true
+isDeliver (gossip from to) = false
+isDeliver (tidy r) = false
+isDeliver (crash kind id) = false
+isDeliver report = false
+
+abbrev pub deliveries : List Call → ℕ
+deliveries cs = count isDeliver cs
+
+abbrev pub noSetUp : List Call → Bool
+noSetUp cs = not (some? isSetUp cs)
+
+-- ---- what an operation costs
+
+-- the fewest directories that are enough for reading, and for writing
+abbrev pub leastToRead : Conf → ℕ
+leastToRead k = k .rq
+
+abbrev pub leastToWrite : Conf → ℕ
+leastToWrite k = k .wq
+
+-- "2rq + 2wq + 2"
+abbrev pub readPrice : Conf → ℕ
+readPrice k = 2 * leastToRead k + 2 * leastToWrite k + 2
+
+-- "2rq + 2wq + 2f + 2"
+abbrev pub writePrice : Conf → ℕ
+writePrice k = 2 * leastToRead k + 2 * leastToWrite k + 2 * k .f + 2
+
+-- ---- calls on a lent buffer, each on what the call before it left
+
+abbrev pub bufferAfter : Layout → List ℕ → List Call → List ℕ
+bufferAfter lay m [] = m
+bufferAfter lay m (q ∷ qs) = bufferAfter lay (call lay q m .buffer) qs
+
+-- some call of the sequence answers client c with this code
+abbrev pub Answers : Layout → (code c : ℕ) → List ℕ → List Call → Type 0
+Answers lay code c m [] = ⊥
+Answers lay code c m (q ∷ qs) = ((call lay q m .answer .code ≡ code) × (call lay q m .answer .client ≡ c)) ⊎ Answers lay code c (call lay q m .buffer) qs
+
+-- the messages of these slots, one after the other
+abbrev pub delivering : List ℕ → List Call
+delivering slots = map (λ s. deliver s noPage) slots
+
+-- "can be started and ended by n deliveries and by no fewer": the start is accepted; after it the messages of some slots, n of them, bring
+-- client c the answer with this code; and every sequence of calls without set-up that brings it has n deliver calls or more
+pub record Takes (lay : Layout) (n : ℕ) (start : Call) (code c : ℕ) (m : List ℕ) : Type 0 where
+  pub starts : call lay start m .answer .code ≡ 0
+  pub slots : List ℕ
+  pub many : length slots ≡ n
+  pub ends : Answers lay code c (call lay start m .buffer) (delivering slots)
+  pub least : (qs : List Call) → T (noSetUp qs) → Answers lay code c m qs → n ≤ deliveries qs
+
+-- ---- what is asked
+
+-- the parties of a kind that are up, and those that are down
+abbrev pub ups : Machine → Party → List ℕ
+ups M who = keep (λ p. not (isDown M who p)) (numbers 1 (manyOf (M .conf) who))
+
+abbrev pub downs : Machine → Party → List ℕ
+downs M who = keep (isDown M who) (numbers 1 (manyOf (M .conf) who))
+
+-- the replicas that are up and have a free entry
+abbrev pub keepers : Machine → List ℕ
+keepers M = keep (λ r. not (isDown M AReplica r) && some? isFree (replicaAt M r .entries)) (numbers 1 (M .conf .replicas))
+
+-- "an idle client that is up, with three message numbers left; at most f replicas down; at least the greater of rq and wq directories up;
+-- 21 empty slots": 21 with 5 directory rows, and 43 with 16
+pub record Ready (M : Machine) (c : ℕ) : Type 0 where
+  pub low : 1 ≤ c
+  pub high : c ≤ M .conf .clients
+  pub idle : clientAt M c .phase ≡ 0
+  pub up : clientAt M c .down ≡ 0
+  pub unworn : clientAt M c .number + 3 ≤ M .conf .top
+  pub replicas : length (downs M AReplica) ≤ M .conf .f
+  pub readers : leastToRead (M .conf) ≤ length (ups M ADirectory)
+  pub writers : leastToWrite (M .conf) ≤ length (ups M ADirectory)
+  pub slots : 2 * length (M .directories) + 11 ≤ emptySlots (M .slots)
+
+-- "f + 1 replicas that are up have a free entry each", "no directory that is up has its number at top"
+pub record ReadyToWrite (M : Machine) (c : ℕ) : Type 0 where
+  pub ready : Ready M c
+  pub entries : M .conf .f + 1 ≤ length (keepers M)
+  pub below : (d : ℕ) → 1 ≤ d → d ≤ M .conf .directories → T (not (isDown M ADirectory d)) → directoryAt M d .tag .number < M .conf .top
