@@ -27,7 +27,8 @@ use Rattle.machine.specs.Buffers.{wrongPage, call}
 use Rattle.runs.proofs.Runs.{sizedStep}
 use Rattle.runs.proofs.Rows.{numbers-of}
 use Rattle.history.proofs.Walk.{Good}
-use Rattle.fewest.specs.Fewest.{leastToRead, leastToWrite, readPrice, writePrice, bufferAfter, Answers, delivering, Takes, Ready, ReadyToWrite}
+use Rattle.fewest.specs.Fewest.{leastToRead, leastToWrite, readPrice, writePrice, bufferAfter, Answers, delivering, Takes, askedToRead, askedToWrite, allOf}
+use Rattle.fewest.proofs.Ready.{Ready, ReadyToWrite, ready, ready-to-write}
 use Rattle.fewest.proofs.Quorums.{mostDirectories}
 use Rattle.fewest.proofs.Spent.{priceOf}
 use Rattle.fewest.proofs.Held.{step-good, Held, held-answer, held-call, held-good, held-few, held-reached}
@@ -121,10 +122,16 @@ module _ (M : Machine) (G : Good M) (few-directories : M .conf .directories ≤ 
 
 -- ---- THE THEOREMS
 
-module _ (lay : Layout) (few : lay .directories ≤ 16) (c : ℕ) {M : Machine} {m : List ℕ} (H : Held lay M m) (R : Ready M c) where
-  takes : (code : ℕ) (q : Call) → T (not (wrongPage q)) → step q M .answer .code ≡ 0 → Ends code c (priceOf (M .conf) code) (step q M .machine)
+module _ (lay : Layout) (few : lay .directories ≤ 16) (c : ℕ) {M : Machine} {m : List ℕ} (H : Held lay M m) where
+  G : Good M
+  G = held-good lay H
+
+  f : M .conf .directories ≤ 16
+  f = held-few lay few H
+
+  takes : (code : ℕ) (q : Call) → Ready M c → T (not (wrongPage q)) → step q M .answer .code ≡ 0 → Ends code c (priceOf (M .conf) code) (step q M .machine)
       → Takes lay (priceOf (M .conf) code) q code c m
-  takes code q w a e =
+  takes code q R w a e =
       record {
         starts = ap (λ (x : Answer). x .code) (answer-is lay code c q H w) ∙ a;
         slots = slots-of lay code c e;
@@ -133,31 +140,28 @@ module _ (lay : Layout) (few : lay .directories ≤ 16) (c : ℕ) {M : Machine} 
         least = no-fewer lay few code c H (record { low = R .low; high = R .high }) (R .idle);
       }
 
-  good : Good M
-  good = held-good lay H
+  read-held : T (allOf (askedToRead M c)) → Takes lay (readPrice (M .conf)) (startRead c) 1 c m
+  read-held h =
+      let R = ready M G c h in
+      takes 1 (startRead c) R tt (ap (λ (r : Result). r .answer .code) (read-begins M G f c R)) (read-ends M G f c R)
 
-  read-held : Takes lay (readPrice (M .conf)) (startRead c) 1 c m
-  read-held =
-      let f = held-few lay few H in
-      takes 1 (startRead c) tt (ap (λ (r : Result). r .answer .code) (read-begins M good f c R)) (read-ends M good f c R)
-
-  write-held : (page : Page) → Paged page → ReadyToWrite M c → Takes lay (writePrice (M .conf)) (startWrite c page) 2 c m
-  write-held page q W =
-      let f = held-few lay few H in
+  write-held : (page : Page) → Paged page → T (allOf (askedToWrite M c)) → Takes lay (writePrice (M .conf)) (startWrite c page) 2 c m
+  write-held page q h =
+      let W = ready-to-write M G c h in
       let w : T (not (wrongPage (startWrite c page))) = rw (eq-eqb (length page) 16 q) tt in
-      takes 2 (startWrite c page) w (ap (λ (r : Result). r .answer .code) (write-begins M good f c R page)) (write-ends M good f c R page w W)
+      takes 2 (startWrite c page) (W .ready) w (ap (λ (r : Result). r .answer .code) (write-begins M G f c (W .ready) page)) (write-ends M G f c (W .ready) page w W)
 
--- any layout of at most 16 directory rows, any buffer, an accepted set-up with first page p, any calls after it
+-- any layout of at most 16 directory rows, any buffer, an accepted set-up with first page p, any calls after it; then client c
 module _ (lay : Layout) (few : lay .directories ≤ 16) (m : List ℕ) (k : Conf) (p : Page) (accepted : call lay (setUp k p) m .answer .code ≡ 0)
     (before : List Call) (c : ℕ) where
   abbrev pub reached : List ℕ
   reached = bufferAfter lay (call lay (setUp k p) m .buffer) before
 
   -- a read takes 2rq + 2wq + 2 deliveries
-  pub read-takes : Ready (machineOf lay reached) c → Takes lay (readPrice (machineOf lay reached .conf)) (startRead c) 1 c reached
-  read-takes R = read-held lay few c (held-reached lay m k p accepted before) R
+  pub read-takes : T (allOf (askedToRead (machineOf lay reached) c)) → Takes lay (readPrice (machineOf lay reached .conf)) (startRead c) 1 c reached
+  read-takes = read-held lay few c (held-reached lay m k p accepted before)
 
-  -- a write 2rq + 2wq + 2f + 2
-  pub write-takes : (page : Page) → Paged page → ReadyToWrite (machineOf lay reached) c
+  -- a write of a page of 16 words takes 2rq + 2wq + 2f + 2
+  pub write-takes : (page : Page) → Paged page → T (allOf (askedToWrite (machineOf lay reached) c))
       → Takes lay (writePrice (machineOf lay reached .conf)) (startWrite c page) 2 c reached
-  write-takes page q W = write-held lay few c (held-reached lay m k p accepted before) (W .ready) page q W
+  write-takes = write-held lay few c (held-reached lay m k p accepted before)

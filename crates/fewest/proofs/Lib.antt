@@ -1,5 +1,6 @@
 -- NO FEWER: Spent, Least. SO MANY DO: the rest.
 pub mod Quorums
+pub mod Ready
 pub mod Spent
 pub mod Held
 pub mod Least
@@ -14,3 +15,5 @@ pub mod Voters
 pub mod Phases
 pub mod Final
 pub mod Example
+pub mod Stuck
+pub mod Needed

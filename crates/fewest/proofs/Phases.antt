@@ -40,7 +40,8 @@ use Rattle.history.proofs.Invariant.{Told, PhaseFact}
 use Rattle.history.proofs.Clients.{client-ok, heard-settled}
 use Rattle.history.proofs.Shape.{client-in}
 use Rattle.history.proofs.Walk.{Good}
-use Rattle.fewest.specs.Fewest.{leastToRead, leastToWrite, readPrice, Ready, ReadyToWrite}
+use Rattle.fewest.specs.Fewest.{leastToRead, leastToWrite, readPrice}
+use Rattle.fewest.proofs.Ready.{Ready, ReadyToWrite}
 use Rattle.fewest.proofs.Quorums.{some-readers, some-writers, mostDirectories}
 use Rattle.fewest.proofs.Spent.{needed}
 use Rattle.fewest.proofs.Waiting.{Somewhere}

@@ -24,7 +24,7 @@ use Rattle.machine.specs.Steps.{effectOf, step}
 use Rattle.mail.proofs.Messages.{length-messages}
 use Rattle.history.proofs.Shape.{Among, client-set}
 use Rattle.history.proofs.Walk.{Good}
-use Rattle.fewest.specs.Fewest.{Ready}
+use Rattle.fewest.proofs.Ready.{Ready}
 use Rattle.fewest.proofs.Quorums.{mostDirectories}
 use Rattle.fewest.proofs.Waiting.{placed-count, placed-has}
 use Rattle.fewest.proofs.Serve.{Mail, askKind, full-mail}

@@ -11,7 +11,8 @@ use Rattle.tables.specs.Tables.{Machine}
 use Rattle.tables.proofs.All.{All}
 use Rattle.rules.specs.Quorums.{enoughToRead, enoughToWrite}
 use Rattle.machine.specs.Calls.{isDown}
-use Rattle.fewest.specs.Fewest.{leastToRead, leastToWrite, ups, Ready}
+use Rattle.fewest.specs.Fewest.{leastToRead, leastToWrite, ups}
+use Rattle.fewest.proofs.Ready.{Ready}
 use Rattle.fewest.proofs.Rounds.{Fresh, gather}
 use Rattle.fewest.proofs.Choose.{chosen, chosen-fresh, chosen-many, chosen-size, chosen-all}
 

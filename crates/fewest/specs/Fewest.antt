@@ -1,15 +1,17 @@
 -- How few deliveries will do: what is counted, what an operation costs, and what is asked before it.
-use Rattle.sets.specs.Plain.{_≡_, _⊎_, Bool, true, false, not, _&&_, ℕ, _+_, _*_, _<_, T, List, [], _∷_, map, length, keep, numbers}
+use Rattle.sets.specs.Plain.{_≡_, _⊎_, Bool, true, false, not, _&&_, ℕ, _+_, _*_, T, leb, eqb, List, [], _∷_, _++_, map, length, keep, numbers}
 use Prim.Native.Nat.{_≤_}
 use Rattle.tables.specs.declared.Layout.{Layout}
 use Rattle.tables.specs.declared.Conf.{Conf}
 use Rattle.tables.specs.declared.Party.{Party}
-use Rattle.tables.specs.declared.Party.the-variants.{ADirectory, AReplica}
+use Rattle.tables.specs.declared.Party.the-variants.{AClient, ADirectory, AReplica}
 use Rattle.tables.specs.Kinds.{manyOf}
 use Rattle.tables.specs.Rows.{some?, count}
-use Rattle.tables.specs.Tables.{Machine, noPage, clientAt, directoryAt, replicaAt, isFree}
+use Rattle.tables.specs.Tables.{Machine, noPage, directoryAt, replicaAt, isFree}
 use Rattle.mail.specs.Slots.{emptySlots}
+use Rattle.inspect.specs.Good.{isParty}
 use Rattle.machine.specs.Calls.{Call, setUp, startRead, startWrite, deliver, gossip, tidy, crash, report, isDown}
+use Rattle.machine.specs.Refusals.{isBusy, isWorn}
 use Rattle.machine.specs.Buffers.{isSetUp, call}
 
 -- ---- "Counted are the deliver calls of a sequence without set-up": refused ones too
@@ -71,7 +73,7 @@ pub record Takes (lay : Layout) (n : ℕ) (start : Call) (code c : ℕ) (m : Lis
   pub ends : Answers lay code c (call lay start m .buffer) (delivering slots)
   pub least : (qs : List Call) → T (noSetUp qs) → Answers lay code c m qs → n ≤ deliveries qs
 
--- ---- what is asked
+-- ---- what is asked, one test a premise
 
 -- the parties of a kind that are up, and those that are down
 abbrev pub ups : Machine → Party → List ℕ
@@ -80,25 +82,38 @@ ups M who = keep (λ p. not (isDown M who p)) (numbers 1 (manyOf (M .conf) who))
 abbrev pub downs : Machine → Party → List ℕ
 downs M who = keep (isDown M who) (numbers 1 (manyOf (M .conf) who))
 
+-- 21 with 5 directory rows, and 43 with 16
+abbrev pub slotsAsked : Machine → ℕ
+slotsAsked M = 2 * length (M .directories) + 11
+
+-- "an idle client that is up, with three message numbers left; at most f replicas down; at least the greater of rq and wq directories up; 21 empty slots"
+abbrev pub askedToRead : Machine → ℕ → List Bool
+askedToRead M c =
+    isParty (M .conf) AClient c
+    ∷ not (isBusy M c)
+    ∷ not (isDown M AClient c)
+    ∷ not (isWorn M c)
+    ∷ leb (length (downs M AReplica)) (M .conf .f)
+    ∷ leb (leastToRead (M .conf)) (length (ups M ADirectory))
+    ∷ leb (leastToWrite (M .conf)) (length (ups M ADirectory))
+    ∷ leb (slotsAsked M) (emptySlots (M .slots))
+    ∷ []
+
 -- the replicas that are up and have a free entry
 abbrev pub keepers : Machine → List ℕ
 keepers M = keep (λ r. not (isDown M AReplica r) && some? isFree (replicaAt M r .entries)) (numbers 1 (M .conf .replicas))
 
--- "an idle client that is up, with three message numbers left; at most f replicas down; at least the greater of rq and wq directories up;
--- 21 empty slots": 21 with 5 directory rows, and 43 with 16
-pub record Ready (M : Machine) (c : ℕ) : Type 0 where
-  pub low : 1 ≤ c
-  pub high : c ≤ M .conf .clients
-  pub idle : clientAt M c .phase ≡ 0
-  pub up : clientAt M c .down ≡ 0
-  pub unworn : clientAt M c .number + 3 ≤ M .conf .top
-  pub replicas : length (downs M AReplica) ≤ M .conf .f
-  pub readers : leastToRead (M .conf) ≤ length (ups M ADirectory)
-  pub writers : leastToWrite (M .conf) ≤ length (ups M ADirectory)
-  pub slots : 2 * length (M .directories) + 11 ≤ emptySlots (M .slots)
+abbrev pub isAtTop : Machine → ℕ → Bool
+isAtTop M d = eqb (directoryAt M d .tag .number) (M .conf .top)
 
--- "f + 1 replicas that are up have a free entry each", "no directory that is up has its number at top"
-pub record ReadyToWrite (M : Machine) (c : ℕ) : Type 0 where
-  pub ready : Ready M c
-  pub entries : M .conf .f + 1 ≤ length (keepers M)
-  pub below : (d : ℕ) → 1 ≤ d → d ≤ M .conf .directories → T (not (isDown M ADirectory d)) → directoryAt M d .tag .number < M .conf .top
+-- "ask also .. that f + 1 replicas that are up have a free entry each, that no directory that is up has its number at top"
+abbrev pub askedToWrite : Machine → ℕ → List Bool
+askedToWrite M c =
+    askedToRead M c
+    ++ leb (M .conf .f + 1) (length (keepers M))
+    ∷ not (some? (isAtTop M) (ups M ADirectory))
+    ∷ []
+
+abbrev pub allOf : List Bool → Bool
+allOf [] = true
+allOf (b ∷ bs) = b && allOf bs

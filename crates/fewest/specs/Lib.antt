@@ -1,2 +1,3 @@
--- What is counted, and what is asked of the machine; a reader must believe it. The theorems stand in proofs/Final.
+-- What is counted and what is asked: a reader must believe it; the theorems stand in proofs/Final. And how an operation hangs.
 pub mod Fewest
+pub mod Hangs
