@@ -1,10 +1,10 @@
 -- A buffer reached from an accepted set-up holds the words of a machine with history's invariant, and every call keeps it so.
 use mathlib.Core.Path.{_≡_, refl, sym, ap, subst, _∙_}
-use mathlib.Core.Bool.{Bool, true, false, not, false≢true}
+use mathlib.Core.Bool.{not}
 use mathlib.Core.List.{List, [], _∷_}
 use Prim.Native.Nat.{ℕ, _≤_}
 use native.Mathlib.Omega.{arith}
-use lib.Dec.{T, eqb, eqb→eq}
+use lib.Dec.{T, eqb, T-not, eqb→eq}
 use lib.ListN.{length, drop}
 use Rattle.sets.proofs.Tests.{T-true, not-not, if-ind}
 use Rattle.tables.specs.declared.Layout.{Layout}
@@ -27,7 +27,6 @@ use Rattle.runs.proofs.New.{new-room}
 use Rattle.runs.proofs.Reached.{step-sound}
 use Rattle.runs.proofs.Rows.{numbers-of}
 use Rattle.runs.proofs.Runs.{sizedStep, sized-room, call-is}
-use Rattle.history.specs.Show.{Renews}
 use Rattle.history.proofs.Invariant.{Invariant}
 use Rattle.history.proofs.Acts.{Acts, acts}
 use Rattle.history.proofs.Kept.{invariant-acts}
@@ -40,49 +39,42 @@ use Rattle.fewest.specs.Fewest.{bufferAfter}
 new-good : (n : ℕ) (k : Conf) (p : Page) → T (not (wrongPage (setUp k p))) → T (not (not (goodNumbers n k))) → Good (newMachine n k p)
 new-good n k p w h = fresh n k p (T-true (goodNumbers n k) (not-not (goodNumbers n k) h)) (eqb→eq (length p) 16 (not-not (eqb (length p) 16) w)) .good
 
-not-renewing : (q : Call) (M : Machine) → T (not (isSetUp q)) → Renews q (effectOf q M .answer) → ⊥
-not-renewing (setUp k page) M n r = n
-not-renewing (startRead c) M n r = r .0
-not-renewing (startWrite c page) M n r = r .0
-not-renewing (deliver s page) M n r = r .0
-not-renewing (gossip from to) M n r = r .0
-not-renewing (tidy i) M n r = r .0
-not-renewing (crash kind id) M n r = r .0
-not-renewing report M n r = r .0
+-- set-up makes the machine anew, every other call applies its effect
+data Kind : Call → Type 0 where
+  renews : (k : Conf) (page : Page) → Kind (setUp k page)
+  keeps : {q : Call} → T (not (isSetUp q)) → ((M : Machine) (e : Effect) → accepted q M e ≡ applied e M) → Kind q
 
--- only set-up replaces the machine
+kind : (q : Call) → Kind q
+kind (setUp k page) = renews k page
+kind (startRead c) = keeps tt (λ _ _. refl)
+kind (startWrite c page) = keeps tt (λ _ _. refl)
+kind (deliver s page) = keeps tt (λ _ _. refl)
+kind (gossip from to) = keeps tt (λ _ _. refl)
+kind (tidy i) = keeps tt (λ _ _. refl)
+kind (crash k id) = keeps tt (λ _ _. refl)
+kind report = keeps tt (λ _ _. refl)
+
 pub accepted-is : (q : Call) (M : Machine) (e : Effect) → T (not (isSetUp q)) → accepted q M e ≡ applied e M
-accepted-is (setUp k page) M e n = absurd n
-accepted-is (startRead c) M e n = refl
-accepted-is (startWrite c page) M e n = refl
-accepted-is (deliver s page) M e n = refl
-accepted-is (gossip from to) M e n = refl
-accepted-is (tidy i) M e n = refl
-accepted-is (crash kind id) M e n = refl
-accepted-is report M e n = refl
+accepted-is q M e n = go (kind q) n
+  where
+    go : {q : Call} → Kind q → T (not (isSetUp q)) → accepted q M e ≡ applied e M
+    go (renews k page) n = absurd n
+    go (keeps _ f) n = f M e
 
 -- what an accepted call but set-up does
 pub call-acts : (q : Call) (M : Machine) → Sound M → T (not (isSetUp q)) → codeOf q M ≡ 0 → Acts M q (effectOf q M)
-call-acts q M z n h = acts M z q (not-renewing q M n) h
+call-acts q M z n h = acts M z q (λ r. T-not (isSetUp q) n (r .0)) h
 
 pub step-good : (q : Call) (M : Machine) → Good M → T (not (wrongPage q)) → Good (step q M .machine)
 step-good q M G w = record { sound = step-sound q M (G .sound) w; invariant = go (step-way q M) }
   where
-    by : (q : Call) → T (not (wrongPage q)) → codeOf q M ≡ 0 → (b : Bool) → isSetUp q ≡ b → Invariant (accepted q M (effectOf q M))
-    by q w h false e = let n : T (not (isSetUp q)) = rw e tt in
-        subst Invariant (sym (accepted-is q M (effectOf q M) n)) (invariant-acts M (G .sound) (G .invariant) (call-acts q M (G .sound) n h))
-    by (setUp k page) w h true e = new-good (length (M .directories)) k page w (allowed (setUp k page) M h .argument) .invariant
-    by (startRead c) w h true e = absurd (false≢true e)
-    by (startWrite c page) w h true e = absurd (false≢true e)
-    by (deliver s page) w h true e = absurd (false≢true e)
-    by (gossip from to) w h true e = absurd (false≢true e)
-    by (tidy i) w h true e = absurd (false≢true e)
-    by (crash kind id) w h true e = absurd (false≢true e)
-    by report w h true e = absurd (false≢true e)
+    by : {q : Call} → Kind q → T (not (wrongPage q)) → codeOf q M ≡ 0 → Invariant (accepted q M (effectOf q M))
+    by (renews k page) w h = new-good (length (M .directories)) k page w (allowed (setUp k page) M h .argument) .invariant
+    by (keeps {q} n f) w h = subst Invariant (sym (f M (effectOf q M))) (invariant-acts M (G .sound) (G .invariant) (call-acts q M (G .sound) n h))
 
     go : {r : Result} → StepWay q M r → Invariant (r .machine)
     go (refuses _) = G .invariant
-    go (accepts h) = by q w h (isSetUp q) refl
+    go (accepts h) = by (kind q) w h
 
 -- ---- buffers
 

@@ -1,6 +1,8 @@
--- NO FEWER: Spent, Least. SO MANY DO: the rest.
+-- EACH PREMISE IS NEEDED: Needed, Stuck. NO FEWER: Replies, Spent, Held, Least. SO MANY DO: the rest, up to Phases. Both together: Final, and an Example.
+pub mod Needed
 pub mod Quorums
 pub mod Ready
+pub mod Stuck
 pub mod Spent
 pub mod Held
 pub mod Least
@@ -15,5 +17,3 @@ pub mod Voters
 pub mod Phases
 pub mod Final
 pub mod Example
-pub mod Stuck
-pub mod Needed
