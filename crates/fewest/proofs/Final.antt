@@ -6,28 +6,33 @@ use mathlib.Core.Logic.{inl, inr}
 use Prim.Native.Nat.{ℕ, suc, _+_, _*_, _^_, _≤_, _<_}
 use native.Mathlib.Omega.{arith}
 use borrow.Author.Tests.{eq-eqb}
-use lib.Dec.{T}
+use lib.Dec.{T, eqb, eqb→eq}
 use lib.ListN.{length}
 use Rattle.sets.specs.Plain.{if_then_else_}
 use Rattle.sets.specs.Sets.{size, all}
 use Rattle.sets.proofs.Laws.{size-all}
+use Rattle.sets.proofs.Tests.{not-not}
 use Rattle.tables.specs.declared.Layout.{Layout}
 use Rattle.tables.specs.declared.Conf.{Conf}
 use Rattle.tables.specs.declared.Client.{Client}
+use Rattle.tables.specs.declared.Party.the-variants.{AClient}
 use Rattle.tables.specs.Tables.{Page, Machine, noPage, clientAt}
 use Rattle.tables.specs.Machines.{machineOf}
 use Rattle.tables.proofs.Whole.{Paged}
+use Rattle.inspect.specs.Good.{isParty}
 use Rattle.rules.specs.Answers.{coded}
 use Rattle.rules.specs.declared.Answer.{Answer}
 use Rattle.rules.specs.Client.{started, request}
 use Rattle.machine.specs.Effects.{client, applied}
 use Rattle.machine.specs.Calls.{Call, setUp, startRead, startWrite, deliver, done}
+use Rattle.machine.specs.Refusals.{isBusy}
 use Rattle.machine.specs.Steps.{Result, pageIn, refused, step}
 use Rattle.machine.specs.Buffers.{wrongPage, call}
 use Rattle.runs.proofs.Runs.{sizedStep}
 use Rattle.runs.proofs.Rows.{numbers-of}
+use Rattle.history.proofs.Shape.{among}
 use Rattle.history.proofs.Walk.{Good}
-use Rattle.fewest.specs.Fewest.{leastToRead, leastToWrite, readPrice, writePrice, bufferAfter, Answers, delivering, Takes, askedToRead, askedToWrite, allOf}
+use Rattle.fewest.specs.Fewest.{deliveries, noSetUp, leastToRead, leastToWrite, readPrice, writePrice, bufferAfter, Answers, delivering, Takes, askedToRead, askedToWrite, allOf}
 use Rattle.fewest.proofs.Ready.{Ready, ReadyToWrite, ready, ready-to-write}
 use Rattle.fewest.proofs.Quorums.{mostDirectories}
 use Rattle.fewest.proofs.Spent.{priceOf}
@@ -165,3 +170,17 @@ module _ (lay : Layout) (few : lay .directories ≤ 16) (m : List ℕ) (k : Conf
   pub write-takes : (page : Page) → Paged page → T (allOf (askedToWrite (machineOf lay reached) c))
       → Takes lay (writePrice (machineOf lay reached .conf)) (startWrite c page) 2 c reached
   write-takes = write-held lay few c (held-reached lay m k p accepted before)
+
+  -- and no fewer, whoever is up and whatever room there is: asked is only that the client is idle
+  module _ (party : T (isParty (machineOf lay reached .conf) AClient c)) (idle : T (not (isBusy (machineOf lay reached) c))) (qs : List Call) (n : T (noSetUp qs)) where
+    least-of : (code : ℕ) → Answers lay code c reached qs → priceOf (machineOf lay reached .conf) code ≤ deliveries qs
+    least-of code =
+        let M : Machine = machineOf lay reached in
+        no-fewer lay few code c (held-reached lay m k p accepted before) (among (M .conf .clients) c party)
+        (eqb→eq (clientAt M c .phase) 0 (not-not (eqb (clientAt M c .phase) 0) idle)) qs n
+
+    pub no-fewer-to-read : Answers lay 1 c reached qs → readPrice (machineOf lay reached .conf) ≤ deliveries qs
+    no-fewer-to-read = least-of 1
+
+    pub no-fewer-to-write : Answers lay 2 c reached qs → writePrice (machineOf lay reached .conf) ≤ deliveries qs
+    no-fewer-to-write = least-of 2

@@ -3,6 +3,7 @@ pub mod Needed
 pub mod Quorums
 pub mod Ready
 pub mod Stuck
+pub mod Replies
 pub mod Spent
 pub mod Held
 pub mod Least

@@ -42,8 +42,7 @@ use Rattle.history.proofs.Shape.{client-in}
 use Rattle.history.proofs.Walk.{Good}
 use Rattle.fewest.specs.Fewest.{leastToRead, leastToWrite, readPrice}
 use Rattle.fewest.proofs.Ready.{Ready, ReadyToWrite}
-use Rattle.fewest.proofs.Quorums.{some-readers, some-writers, mostDirectories}
-use Rattle.fewest.proofs.Spent.{needed}
+use Rattle.fewest.proofs.Quorums.{needed, some-readers, some-writers, mostDirectories}
 use Rattle.fewest.proofs.Waiting.{Somewhere}
 use Rattle.fewest.proofs.Serve.{Mail, Kept, kept-on, Able, as-directory, as-replica, Served, served}
 use Rattle.fewest.proofs.Turn.{PhaseKinds, kinds, to-1, to-2, to-3, to-4, to-5, to-6, no-messages, turns-1, turns-2, turns-3, turns-4, turns-5, turns-6, Opened, below-heard, phase-heard, turns, opened, ended}

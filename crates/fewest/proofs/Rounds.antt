@@ -19,7 +19,7 @@ use Rattle.tables.proofs.All.{All, none, cons, all-map}
 use Rattle.rules.specs.Client.{enoughFor}
 use Rattle.machine.specs.Calls.{deliver}
 use Rattle.machine.specs.Steps.{step}
-use Rattle.fewest.proofs.Spent.{needed, enough-least}
+use Rattle.fewest.proofs.Quorums.{needed, enough-least}
 use Rattle.fewest.proofs.Waiting.{Somewhere}
 use Rattle.fewest.proofs.Serve.{Mail, askKind, Reply, On, Kept, kept-on, Able, Served, served}
 use Rattle.fewest.proofs.Turn.{PhaseKinds, Waited, waited}

@@ -41,7 +41,7 @@ use Rattle.runs.proofs.Rows.{numbers-of}
 use Rattle.history.proofs.Rows.{row-ind}
 use Rattle.history.proofs.Shape.{Among}
 use Rattle.history.proofs.Walk.{Good}
-use Rattle.fewest.proofs.Spent.{one-of-ind}
+use Rattle.fewest.proofs.Replies.{one-of-ind}
 use Rattle.fewest.proofs.Held.{step-good}
 use Rattle.fewest.proofs.Waiting.{Somewhere}
 use Rattle.fewest.proofs.Delivery.{delivered, room-after, waits-on, sends}

@@ -1,39 +1,31 @@
 -- What the open operation of a client has cost so far: each call adds at most what it is, and an end is never cheaper than its price.
 use mathlib.Core.Path.{_≡_, refl, sym, ap, subst, _∙_}
-use mathlib.Core.Bool.{Bool, true, false}
 use mathlib.Core.Logic.{⊎-elim}
-use mathlib.Core.List.{List, [], _∷_}
+use mathlib.Core.List.{List}
 use Prim.Native.Nat.{ℕ, _+_, _*_, _^_, _≤_, _<_}
 use native.Mathlib.Decide.{ℕ-discrete}
 use native.Mathlib.Omega.{arith}
-use lib.Dec.{T, eqb, leb, eqb→eq, leb→le, T-not}
+use lib.Dec.{T, eqb, T-not}
 use lib.Pow.{pow-pos}
-use Rattle.sets.specs.Plain.{if_then_else_, oneOf}
+use Rattle.sets.specs.Plain.{if_then_else_}
 use Rattle.sets.specs.declared.Tag.{Tag}
 use Rattle.sets.specs.Sets.{size, with, only}
 use Rattle.sets.specs.Inner.{_∈_}
 use Rattle.sets.proofs.Laws.{with-in, in-with-old, in-with-new, with-lt, only-lt, only-in, size-none, size-only, size-join, within}
-use Rattle.sets.proofs.Tests.{or-elim, if-ind}
 use Rattle.tables.specs.declared.Conf.{Conf}
 use Rattle.tables.specs.declared.Client.{Client}
-use Rattle.tables.specs.declared.Directory.{Directory}
-use Rattle.tables.specs.declared.Entry.{Entry}
 use Rattle.tables.specs.declared.Message.{Message}
 use Rattle.tables.specs.declared.Party.{Party}
 use Rattle.tables.specs.declared.Party.the-variants.{Nobody, AClient, ADirectory, AReplica}
 use Rattle.tables.specs.Kinds.{senderOf, manyOf}
 use Rattle.tables.specs.Rows.{row, withRow}
 use Rattle.tables.specs.Tables.{Page, Machine, noClient, noMessage, clientAt, directoryAt, replicaAt, slotAt, noPage}
-use Rattle.tables.proofs.All.{All, none, cons, all-map, all-row}
-use Rattle.mail.specs.declared.Post.{Post}
-use Rattle.rules.specs.declared.Outcome.{Outcome}
-use Rattle.rules.specs.declared.Outcome.the-variants.{Waiting, Next, ReadEnded, WriteEnded, Spent, Stale}
+use Rattle.tables.proofs.All.{All, all-map, all-row}
 use Rattle.mail.specs.Posts.{noPost}
+use Rattle.rules.specs.declared.Outcome.{Outcome}
 use Rattle.rules.specs.Answers.{answerOf}
-use Rattle.rules.specs.Quorums.{enoughToRead, enoughToWrite}
-use Rattle.rules.specs.Directory.{directoryPost}
-use Rattle.rules.specs.Replica.{replicaPost, gossipPost}
-use Rattle.rules.specs.Client.{awaited, enoughFor, heard, moved, started, idle, clientAfter, request, secures, clientPost}
+use Rattle.rules.specs.Replica.{gossipPost}
+use Rattle.rules.specs.Client.{awaited, heard, moved, started, idle, clientAfter}
 use Rattle.rules.proofs.Heard.{heard-keeps, heard-answered}
 use Rattle.rules.proofs.Views.{Timely, Completes, View, v-stale, v-waits, v-1, v-2, v-3, v-4, v-spent, v-5, v-6}
 use Rattle.machine.specs.Effects.{Effect, applied}
@@ -41,54 +33,12 @@ use Rattle.machine.specs.Calls.{Call, downed, downClient, done}
 use Rattle.runs.proofs.Sound.{Sound}
 use Rattle.runs.proofs.Rows.{numbers-of}
 use Rattle.history.proofs.Rows.{row-ind, Sent, all-slots}
-use Rattle.history.proofs.Invariant.{Past, Fact, MessageOk, Invariant}
+use Rattle.history.proofs.Invariant.{MessageOk, Invariant}
 use Rattle.history.proofs.Keeping.{unsent}
 use Rattle.history.proofs.Acts.{Acts, Comes, reads, writes, drops, directs, stores, hears, gossips, tidies, crashes, reports, begun, answered}
 use Rattle.fewest.specs.Fewest.{isDeliver, leastToRead, leastToWrite, readPrice, writePrice}
-use Rattle.fewest.proofs.Quorums.{read-least, write-least}
-
--- ---- replies
-
-abbrev pub isReply : ℕ → Bool
-isReply k = oneOf k (5 ∷ 6 ∷ 7 ∷ 8 ∷ 12 ∷ 13 ∷ [])
-
-pub one-of-ind : (k : ℕ) (l : List ℕ) {P : ℕ → Type 0} → All P l → T (oneOf k l) → P k
-one-of-ind k [] none h = absurd h
-one-of-ind k (a ∷ []) {P} (cons p none) h = subst P (sym (eqb→eq k a h)) p
-one-of-ind k (a ∷ b ∷ l) {P} (cons p ps) h =
-    ⊎-elim (λ e. subst P (sym (eqb→eq k a e)) p) (λ r. one-of-ind k (b ∷ l) ps r) (or-elim (eqb k a) (oneOf k (b ∷ l)) h)
-
--- the number of a waiting reply is not to come
-reply-past : (M : Machine) (x : Message) → MessageOk M x → T (isReply (x .kind)) → Past M (x .receiver) (x .number)
-reply-past M x ok h = one-of-ind (x .kind) (5 ∷ 6 ∷ 7 ∷ 8 ∷ 12 ∷ 13 ∷ []) each h ok
-  where
-    at : (k : ℕ) → (Fact M x k → Past M (x .receiver) (x .number)) → Fact M x k → Past M (x .receiver) (x .number)
-    at k f = f
-
-    each : All (λ (k : ℕ). Fact M x k → Past M (x .receiver) (x .number)) (5 ∷ 6 ∷ 7 ∷ 8 ∷ 12 ∷ 13 ∷ [])
-    each =
-        cons (at 5 (λ f. f .0))
-        (cons (at 6 (λ f. f .past))
-        (cons (at 7 (λ f. f)) (cons (at 8 (λ f. f .past)) (cons (at 12 (λ f. f .0 .past)) (cons (at 13 (λ f. f .past)) none)))))
-
-awaited-reply : (p : ℕ) → (awaited p ≡ 0 → ⊥) → T (isReply (awaited p))
-unfolding awaited
-awaited-reply p =
-    if-ind P (eqb p 1) (λ _ _. tt)
-    (λ _. if-ind P (eqb p 2) (λ _ _. tt)
-    (λ _. if-ind P (eqb p 3) (λ _ _. tt)
-    (λ _. if-ind P (eqb p 4) (λ _ _. tt)
-    (λ _. if-ind P (eqb p 5) (λ _ _. tt)
-    (λ _. if-ind P (eqb p 6) (λ _ _. tt) (λ _ n. absurd (n refl)))))))
-  where
-    P : ℕ → Type 0
-    P k = (k ≡ 0 → ⊥) → T (isReply k)
-
--- x answers message number n of client c
-pub record Replies (c n : ℕ) (x : Message) : Type 0 where
-  pub to : x .receiver ≡ c
-  pub kind : T (isReply (x .kind))
-  pub number : x .number ≡ n
+use Rattle.fewest.proofs.Quorums.{needed, enough-least}
+use Rattle.fewest.proofs.Replies.{reply-past, awaited-reply, Replies, NoReply, request-asks, client-asks, directory-own, replica-own}
 
 -- ---- the cost
 
@@ -108,57 +58,6 @@ pub record Cost (k : Conf) (c : ℕ) (ss : List Message) (d : ℕ) (w : Client) 
   pub inside : (p : ℕ) → p ∈ w .answered → p ∈ replied
   pub waits : 1 ≤ w .phase → All (λ (x : Message). Replies c (w .number) x → x .sender ∈ replied) ss
   pub paid : paidBefore k (w .phase) + size replied + size (w .answered) ≤ d
-
--- ---- what is posted
-
-abbrev NoReply : Message → Type 0
-NoReply x = T (isReply (x .kind)) → ⊥
-
--- whoever is asked
-request-asks : (k : Conf) (own : ℕ) (w : Client) → NoReply (request k own w .message)
-unfolding request noMessage
-request-asks k own w =
-    if-ind P (eqb (w .phase) 1) (λ _ h. h)
-    (λ _. if-ind P (eqb (w .phase) 2) (λ _ h. h)
-    (λ _. if-ind P (eqb (w .phase) 3) (λ _ h. h)
-    (λ _. if-ind P (eqb (w .phase) 4) (λ _ h. h)
-    (λ _. if-ind P (eqb (w .phase) 5) (λ _ h. h)
-    (λ _. if-ind P (eqb (w .phase) 6) (λ _ h. h) (λ _ h. h))))))
-  where
-    P : Post → Type 0
-    P y = NoReply (y .message)
-
-client-asks : (k : Conf) (own : ℕ) (w y : Client) (o : Outcome) → Sent NoReply (clientPost k own w y o)
-unfolding clientPost secures
-client-asks k own w y Stale = unsent NoReply
-client-asks k own w y Waiting = unsent NoReply
-client-asks k own w y (Next t) = λ p m. request-asks k own y
-client-asks k own w y (ReadEnded t) = unsent NoReply
-client-asks k own w y (WriteEnded t) = λ p m h. h
-client-asks k own w y Spent = unsent NoReply
-
--- a server posts under its own number
-module _ (x : Message) where
-  abbrev Own : Message → Type 0
-  Own y = y .sender ≡ x .receiver
-
-  abbrev OwnPost : Post → Type 0
-  OwnPost y = Sent Own y
-
-  directory-own : (d : Directory) → OwnPost (directoryPost d x)
-  unfolding directoryPost
-  directory-own d =
-      if-ind OwnPost (eqb (x .kind) 1) (λ _ p m. refl)
-      (λ _. if-ind OwnPost (eqb (x .kind) 2) (λ _ p m. refl)
-      (λ _. if-ind OwnPost (eqb (x .kind) 3) (λ _ p m. refl)
-      (λ _. if-ind OwnPost (eqb (x .kind) 4) (λ _ p m. refl) (λ _. unsent Own))))
-
-  replica-own : (nd : ℕ) (es : List Entry) → OwnPost (replicaPost nd es x)
-  unfolding replicaPost
-  replica-own nd es =
-      if-ind OwnPost (eqb (x .kind) 9) (λ _ p m. refl)
-      (λ _. if-ind OwnPost (eqb (x .kind) 10) (λ _ p m. refl)
-      (λ _. if-ind OwnPost (eqb (x .kind) 15) (λ _ p m. refl) (λ _. unsent Own)))
 
 -- ---- a step
 
@@ -215,23 +114,6 @@ module _ (M : Machine) (c : ℕ) where
     where
       late : (x : Message) → MessageOk M x → Replies c (w .number) x → ⊥
       late x ok q = omega (arith, q .number, subst (λ (b : ℕ). x .number ≤ clientAt M b .number) (q .to) (reply-past M x ok (q .kind)))
-
--- ---- what an enough set costs
-
--- how many must answer in phase p; phase 3 has one answer
-abbrev pub needed : Conf → ℕ → ℕ
-needed k p = if oneOf p (1 ∷ 4 ∷ []) then leastToRead k else if oneOf p (2 ∷ 6 ∷ []) then leastToWrite k else if eqb p 5 then k .f + 1 else 0
-
-pub enough-least : (k : Conf) (p s : ℕ) → T (enoughFor k p s) → needed k p ≤ size s
-unfolding enoughFor
-enough-least k p s = go (oneOf p (1 ∷ 4 ∷ [])) (oneOf p (2 ∷ 6 ∷ [])) (eqb p 5)
-  where
-    go : (a b e : Bool) → T (if a then enoughToRead k s else if b then enoughToWrite k s else if e then leb (k .f + 1) (size s) else true)
-        → (if a then leastToRead k else if b then leastToWrite k else if e then k .f + 1 else 0) ≤ size s
-    go true b e h = read-least k s h
-    go false true e h = write-least k s h
-    go false false true h = leb→le (k .f + 1) (size s) h
-    go false false false h = omega arith
 
 -- ---- a reply at the client
 

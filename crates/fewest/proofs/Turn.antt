@@ -39,7 +39,7 @@ use Rattle.machine.specs.Steps.{Result, step}
 use Rattle.mail.proofs.Messages.{length-messages}
 use Rattle.history.proofs.Shape.{client-set}
 use Rattle.history.proofs.Walk.{Good}
-use Rattle.fewest.proofs.Spent.{one-of-ind}
+use Rattle.fewest.proofs.Replies.{one-of-ind}
 use Rattle.fewest.proofs.Held.{step-good}
 use Rattle.fewest.proofs.Waiting.{Somewhere}
 use Rattle.fewest.proofs.Delivery.{delivered, room-after, waits-on, sends}

@@ -1,4 +1,4 @@
--- How few deliveries will do: what is counted, what an operation costs, and what is asked before it.
+-- How few deliveries will do: what is asked, what an operation then costs, what is counted, and what it is to take so many.
 use Rattle.sets.specs.Plain.{_≡_, _⊎_, Bool, true, false, not, _&&_, ℕ, _+_, _*_, T, leb, eqb, List, [], _∷_, _++_, map, length, keep, numbers}
 use Prim.Native.Nat.{_≤_}
 use Rattle.tables.specs.declared.Layout.{Layout}
@@ -14,25 +14,12 @@ use Rattle.machine.specs.Calls.{Call, setUp, startRead, startWrite, deliver, go
 use Rattle.machine.specs.Refusals.{isBusy, isWorn}
 use Rattle.machine.specs.Buffers.{isSetUp, call}
 
--- ---- "Counted are the deliver calls of a sequence without set-up": refused ones too
+-- ---- what is asked, one test a premise
 
-abbrev pub isDeliver : Call → Bool
-isDeliver (setUp k page) = false
-isDeliver (startRead c) = false
-isDeliver (startWrite c page) = false
-isDeliver (deliver s page) = true
-isDeliver (gossip from to) = false
-isDeliver (tidy r) = false
-isDeliver (crash kind id) = false
-isDeliver report = false
-
-abbrev pub deliveries : List Call → ℕ
-deliveries cs = count isDeliver cs
-
-abbrev pub noSetUp : List Call → Bool
-noSetUp cs = not (some? isSetUp cs)
-
--- ---- what an operation costs
+-- all of these tests hold
+abbrev pub allOf : List Bool → Bool
+allOf [] = true
+allOf (b ∷ bs) = b && allOf bs
 
 -- the fewest directories that are enough for reading, and for writing
 abbrev pub leastToRead : Conf → ℕ
@@ -40,40 +27,6 @@ leastToRead k = k .rq
 
 abbrev pub leastToWrite : Conf → ℕ
 leastToWrite k = k .wq
-
--- "2rq + 2wq + 2"
-abbrev pub readPrice : Conf → ℕ
-readPrice k = 2 * leastToRead k + 2 * leastToWrite k + 2
-
--- "2rq + 2wq + 2f + 2"
-abbrev pub writePrice : Conf → ℕ
-writePrice k = 2 * leastToRead k + 2 * leastToWrite k + 2 * k .f + 2
-
--- ---- calls on a lent buffer, each on what the call before it left
-
-abbrev pub bufferAfter : Layout → List ℕ → List Call → List ℕ
-bufferAfter lay m [] = m
-bufferAfter lay m (q ∷ qs) = bufferAfter lay (call lay q m .buffer) qs
-
--- some call of the sequence answers client c with this code
-abbrev pub Answers : Layout → (code c : ℕ) → List ℕ → List Call → Type 0
-Answers lay code c m [] = ⊥
-Answers lay code c m (q ∷ qs) = ((call lay q m .answer .code ≡ code) × (call lay q m .answer .client ≡ c)) ⊎ Answers lay code c (call lay q m .buffer) qs
-
--- the messages of these slots, one after the other
-abbrev pub delivering : List ℕ → List Call
-delivering slots = map (λ s. deliver s noPage) slots
-
--- "can be started and ended by n deliveries and by no fewer": the start is accepted; after it the messages of some slots, n of them, bring
--- client c the answer with this code; and every sequence of calls without set-up that brings it has n deliver calls or more
-pub record Takes (lay : Layout) (n : ℕ) (start : Call) (code c : ℕ) (m : List ℕ) : Type 0 where
-  pub starts : call lay start m .answer .code ≡ 0
-  pub slots : List ℕ
-  pub many : length slots ≡ n
-  pub ends : Answers lay code c (call lay start m .buffer) (delivering slots)
-  pub least : (qs : List Call) → T (noSetUp qs) → Answers lay code c m qs → n ≤ deliveries qs
-
--- ---- what is asked, one test a premise
 
 -- the parties of a kind that are up, and those that are down
 abbrev pub ups : Machine → Party → List ℕ
@@ -114,6 +67,55 @@ askedToWrite M c =
     ∷ not (some? (isAtTop M) (ups M ADirectory))
     ∷ []
 
-abbrev pub allOf : List Bool → Bool
-allOf [] = true
-allOf (b ∷ bs) = b && allOf bs
+-- ---- what an operation then costs
+
+-- "2rq + 2wq + 2"
+abbrev pub readPrice : Conf → ℕ
+readPrice k = 2 * leastToRead k + 2 * leastToWrite k + 2
+
+-- "2rq + 2wq + 2f + 2"
+abbrev pub writePrice : Conf → ℕ
+writePrice k = 2 * leastToRead k + 2 * leastToWrite k + 2 * k .f + 2
+
+-- ---- "Counted are the deliver calls of a sequence without set-up": refused ones too
+
+abbrev pub isDeliver : Call → Bool
+isDeliver (setUp k page) = false
+isDeliver (startRead c) = false
+isDeliver (startWrite c page) = false
+isDeliver (deliver s page) = true
+isDeliver (gossip from to) = false
+isDeliver (tidy r) = false
+isDeliver (crash kind id) = false
+isDeliver report = false
+
+abbrev pub deliveries : List Call → ℕ
+deliveries cs = count isDeliver cs
+
+abbrev pub noSetUp : List Call → Bool
+noSetUp cs = not (some? isSetUp cs)
+
+-- ---- "can be started and ended by .. deliveries and by no fewer"
+
+-- calls on a lent buffer, each on what the call before it left
+abbrev pub bufferAfter : Layout → List ℕ → List Call → List ℕ
+bufferAfter lay m [] = m
+bufferAfter lay m (q ∷ qs) = bufferAfter lay (call lay q m .buffer) qs
+
+-- some call of the sequence answers client c with this code
+abbrev pub Answers : Layout → (code c : ℕ) → List ℕ → List Call → Type 0
+Answers lay code c m [] = ⊥
+Answers lay code c m (q ∷ qs) = ((call lay q m .answer .code ≡ code) × (call lay q m .answer .client ≡ c)) ⊎ Answers lay code c (call lay q m .buffer) qs
+
+-- the messages of these slots, one after the other
+abbrev pub delivering : List ℕ → List Call
+delivering slots = map (λ s. deliver s noPage) slots
+
+-- n of them, from the buffer m: the start is accepted; after it the messages of some slots, n of them, bring client c the answer with this code;
+-- and every sequence of calls without set-up that brings it has n deliver calls or more, wherever in it the operation starts
+pub record Takes (lay : Layout) (n : ℕ) (start : Call) (code c : ℕ) (m : List ℕ) : Type 0 where
+  pub starts : call lay start m .answer .code ≡ 0
+  pub slots : List ℕ
+  pub many : length slots ≡ n
+  pub ends : Answers lay code c (call lay start m .buffer) (delivering slots)
+  pub least : (qs : List Call) → T (noSetUp qs) → Answers lay code c m qs → n ≤ deliveries qs
