@@ -1,5 +1,6 @@
 -- EACH PREMISE IS NEEDED: for each a schedule after which all the others hold, and an operation that then hangs. Computed.
 use mathlib.Core.Path.{_≡_, refl}
+use mathlib.Core.Bool.{true}
 use mathlib.Core.List.{List, [], _∷_, _++_}
 use Prim.Native.Nat.{ℕ, zero, suc}
 use lib.Count.{ones, onesIn}
@@ -38,45 +39,46 @@ abbrev eleven : List Call
 eleven =
     written 1 ++ written 1 ++ written 1 ++ written 1 ++ written 1 ++ written 1 ++ written 1 ++ written 1 ++ written 1 ++ written 1 ++ written 1
 
--- all that is asked of client c holds but the i-th, and its read hangs, or its write
+-- the set-up was one that is accepted; all that is asked of client c holds but the i-th; and its read hangs
 abbrev ReadHangs : (i c : ℕ) → Machine → List ℕ → Type 0
-ReadHangs i c M slots = (askedToRead M c ≡ allBut i 8) × Hangs M (startRead c) 1 c slots
+ReadHangs i c M slots = (goodNumbers 5 (M .conf) ≡ true) × (askedToRead M c ≡ allBut i 8) × Hangs M (startRead c) 1 c slots
 
+-- or its write
 abbrev WriteHangs : (i c : ℕ) → Machine → List ℕ → Type 0
-WriteHangs i c M slots = (askedToWrite M c ≡ allBut i 10) × Hangs M (startWrite c page) 2 c slots
+WriteHangs i c M slots = (goodNumbers 5 (M .conf) ≡ true) × (askedToWrite M c ≡ allBut i 10) × Hangs M (startWrite c page) 2 c slots
 
 pub record Needed : Type 0 where
   -- there is no client 2
-  client : ReadHangs 1 2 (madeOf 1 1 1 1 1 99 []) []
+  pub client : ReadHangs 1 2 (madeOf 1 1 1 1 1 99 []) []
   -- its write waits for an entry
-  idle : ReadHangs 2 1 (madeOf 1 1 1 1 1 99 (eleven ++ startWrite 1 page ∷ delivering (1 ∷ 1 ∷ []))) []
-  up : ReadHangs 3 1 (madeOf 1 1 1 1 1 99 (crash 1 1 ∷ [])) []
+  pub idle : ReadHangs 2 1 (madeOf 1 1 1 1 1 99 (eleven ++ startWrite 1 page ∷ delivering (1 ∷ 1 ∷ []))) []
+  pub up : ReadHangs 3 1 (madeOf 1 1 1 1 1 99 (crash 1 1 ∷ [])) []
   -- one read has used the three numbers
-  numbered : ReadHangs 4 1 (madeOf 1 1 1 1 1 3 (startRead 1 ∷ delivering (replicate 6 1))) []
+  pub numbered : ReadHangs 4 1 (madeOf 1 1 1 1 1 3 (startRead 1 ∷ delivering (replicate 6 1))) []
   -- the request to the replica is dropped
-  replicas : ReadHangs 5 1 (madeOf 1 1 1 1 1 99 (crash 3 1 ∷ [])) (1 ∷ 1 ∷ 1 ∷ 1 ∷ 1 ∷ [])
+  pub replicas : ReadHangs 5 1 (madeOf 1 1 1 1 1 99 (crash 3 1 ∷ [])) (1 ∷ 1 ∷ 1 ∷ 1 ∷ 1 ∷ [])
   -- one of two directories is down: rq is 2
-  readers : ReadHangs 6 1 (madeOf 1 2 1 2 1 99 (crash 2 2 ∷ [])) (1 ∷ 1 ∷ 2 ∷ [])
+  pub readers : ReadHangs 6 1 (madeOf 1 2 1 2 1 99 (crash 2 2 ∷ [])) (1 ∷ 1 ∷ 2 ∷ [])
   -- or wq is
-  writers : ReadHangs 7 1 (madeOf 1 2 1 1 2 99 (crash 2 2 ∷ [])) (1 ∷ 1 ∷ 1 ∷ 1 ∷ 2 ∷ 3 ∷ [])
+  pub writers : ReadHangs 7 1 (madeOf 1 2 1 1 2 99 (crash 2 2 ∷ [])) (1 ∷ 1 ∷ 1 ∷ 1 ∷ 2 ∷ 3 ∷ [])
   -- 128 gossips: each would be answered by two notices, and leaves one slot
-  slots : ReadHangs 8 1 (madeOf 1 2 2 1 2 99 (replicate 128 (gossip 1 2))) []
-  entries : WriteHangs 9 1 (madeOf 1 1 1 1 1 99 eleven) (1 ∷ 1 ∷ [])
+  pub slots : ReadHangs 8 1 (madeOf 1 2 2 1 2 99 (replicate 128 (gossip 1 2))) []
+  pub entries : WriteHangs 9 1 (madeOf 1 1 1 1 1 99 eleven) (1 ∷ 1 ∷ [])
   -- three writes have used the three numbers: SPENT
-  below : WriteHangs 10 1 (madeOf 4 1 1 1 1 3 (written 2 ++ written 3 ++ written 4)) (1 ∷ 1 ∷ [])
+  pub below : WriteHangs 10 1 (madeOf 4 1 1 1 1 3 (written 2 ++ written 3 ++ written 4)) (1 ∷ 1 ∷ [])
 
 pub needed : Needed
 unfolding ones onesIn against senderOf receiverOf noPage noClient noDirectory noEntry noReplica noMessage goodNumbers messagesOf enoughToRead enoughToWrite directoryAfter directoryPost entryWith raised highest secure write hearGossip read tidied replicaAfter replicaPost isFull gossipPost awaited enoughFor isStale heard chosen turned outcome clientAfter request secures clientPost partyOf startEffect gossipEffect tidyEffect crashEffect clientEffect directoryEffect replicaEffect deliverEffect refusal newMachine effectOf step
 needed =
     record {
-      client = (refl, record { unended = refl; stuck = refl });
-      idle = (refl, record { unended = refl; stuck = refl });
-      up = (refl, record { unended = refl; stuck = refl });
-      numbered = (refl, record { unended = refl; stuck = refl });
-      replicas = (refl, record { unended = refl; stuck = refl });
-      readers = (refl, record { unended = refl; stuck = refl });
-      writers = (refl, record { unended = refl; stuck = refl });
-      slots = (refl, record { unended = refl; stuck = refl });
-      entries = (refl, record { unended = refl; stuck = refl });
-      below = (refl, record { unended = refl; stuck = refl });
+      client = (refl, refl, record { unended = refl; stuck = refl });
+      idle = (refl, refl, record { unended = refl; stuck = refl });
+      up = (refl, refl, record { unended = refl; stuck = refl });
+      numbered = (refl, refl, record { unended = refl; stuck = refl });
+      replicas = (refl, refl, record { unended = refl; stuck = refl });
+      readers = (refl, refl, record { unended = refl; stuck = refl });
+      writers = (refl, refl, record { unended = refl; stuck = refl });
+      slots = (refl, refl, record { unended = refl; stuck = refl });
+      entries = (refl, refl, record { unended = refl; stuck = refl });
+      below = (refl, refl, record { unended = refl; stuck = refl });
     }
