@@ -1,15 +1,19 @@
 //! Schedules for the step machine, the comparison of two machines on them, the line of
-//! operations of what they answered, and pictures.
+//! operations of what they answered, pictures, and why an operation is still open.
 #![forbid(unsafe_code)]
 
 pub mod compare;
 pub mod draw;
+pub mod ending;
 pub mod external;
 pub mod history;
 pub mod jam;
+pub mod least;
 pub mod night;
 pub mod odd;
+pub mod open;
 pub mod order;
+pub mod premises;
 pub mod prng;
 pub mod profile;
 pub mod schedule;
@@ -19,6 +23,7 @@ pub mod story;
 pub mod svg;
 pub mod tally;
 pub mod view;
+pub mod why;
 
 pub use compare::{compare, compare_all, Difference};
 pub use schedule::{cold_schedule, schedule};

@@ -1,14 +1,14 @@
-//! `bench`: makes, runs, compares and draws schedules.
+//! `bench`: makes, runs, compares, draws and explains schedules.
 #![forbid(unsafe_code)]
 
 use bench::compare::{compare_all, copy_output, Seeded};
-use bench::{draw, external, night, order, schedule};
+use bench::{draw, external, night, order, schedule, why};
 use std::io::{self, Write};
 use std::process::ExitCode;
 use std::time::{Duration, Instant};
 
-const USAGE: &str =
-    "bench generate SEED LINES | rehearse FILE | check FILE ANSWERS | night LINES | soak MINUTES | draw FILE OUT.svg";
+const USAGE: &str = "bench generate SEED LINES | rehearse FILE | check FILE ANSWERS | night LINES | soak MINUTES | \
+    draw FILE OUT.svg | why FILE";
 
 fn main() -> ExitCode {
     let arguments: Vec<String> = std::env::args().skip(1).collect();
@@ -30,6 +30,7 @@ fn run(words: &[&str]) -> Result<(), String> {
         ["night", lines] => print(&night::night(number(lines)? as usize)),
         ["soak", minutes] => soak(Duration::from_secs(60 * number(minutes)?)),
         ["draw", file, out] => write(out, &draw::draw(&read(file)?)?),
+        ["why", file] => explain(&read(file)?),
         _ => Err(USAGE.to_string()),
     }
 }
@@ -59,6 +60,13 @@ fn check(input: &[u8], answers: &[u8]) -> Result<(), String> {
     let count = order::check(input, answers)?;
     println!("{count} operations in line");
     Ok(())
+}
+
+/// Why each operation that is open is open; one that is ours is a failure.
+fn explain(input: &[u8]) -> Result<(), String> {
+    let told = why::why(input);
+    print(told.text.as_bytes())?;
+    told.status()
 }
 
 /// Compares batches of ever new seeds until the time is over.

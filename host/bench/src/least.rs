@@ -1,0 +1,73 @@
+//! The least number of deliveries that can end an operation, by the rules of a step alone: the
+//! search is guided by it, so it must not rest on what the search is to show.
+
+use crate::open::{answers, at_top, empty_slots, up, with_room, with_tag, Open};
+use copy::layout::*;
+use copy::{Numbers, Words};
+
+/// No fewer deliveries can end it; nothing if none can.
+///
+/// An answer counts when its reply is delivered. A reply that does not wait is made by no
+/// delivery but that of its request. What later phases ask is sent under a later number, so
+/// nothing of it waits now. That makes `left`, whatever else is delivered in between.
+/// A delivery empties one slot at most, and an answered request none: its reply takes the
+/// place. So where the replies do not empty enough for what the phases send, each slot that
+/// is short takes a delivery more, of some other message.
+pub fn least(m: &Words, open: &Open) -> Option<u32> {
+    can_end(m, open).then(|| open.left() + slots_short(m, open))
+}
+
+/// Slots that the replies to come do not empty, of those that the phases fill.
+pub fn slots_short(m: &Words, open: &Open) -> u32 {
+    let mut room = i64::from(empty_slots(m));
+    let mut short = 0;
+    for phase in open.row.phase..=open.last() {
+        let present = phase == open.row.phase;
+        let heard = if present { open.missing() } else { answers(phase, &open.numbers) };
+        room += i64::from(heard) - i64::from(sent_after(open, phase));
+        short = short.max(-room);
+    }
+    short as u32
+}
+
+/// The least that the end of a phase sends. A directory's set never has fewer than f + 1: it
+/// begins with all replicas and takes no smaller one.
+fn sent_after(open: &Open, phase: u32) -> u32 {
+    let Numbers { nd, nr, f, .. } = open.numbers;
+    let present = phase == open.row.phase;
+    match phase {
+        RDR | WRW => nd,
+        WDR => nr,
+        RDW | WDW if present => open.row.set.count_ones(),
+        RDW | WDW => f + 1,
+        _ => 0,
+    }
+}
+
+/// False where no delivery can help: none brings a party up, frees an entry, lowers a number
+/// or sends a request again; and a tag still to be chosen is at no replica yet.
+fn can_end(m: &Words, open: &Open) -> bool {
+    let Numbers { nd, nr, f, wq, .. } = open.numbers;
+    let directories = up(m, Party::Directory, nd);
+    let replicas = up(m, Party::Replica, nr);
+    let later = match open.row.phase {
+        RDR => directories.count_ones() >= wq && replicas != 0,
+        RDW => replicas & open.row.set != 0,
+        WDR => directories.count_ones() >= wq && (replicas & with_room(m, nr)).count_ones() > f,
+        WRW => directories.count_ones() >= wq,
+        _ => true,
+    };
+    open.row.down == 0 && later && able(m, open, directories, replicas).count_ones() >= open.missing()
+}
+
+/// Parties that may still answer in the present phase, and not end a write as SPENT.
+fn able(m: &Words, open: &Open, directories: u32, replicas: u32) -> u32 {
+    let Numbers { nr, top, .. } = open.numbers;
+    match open.row.phase {
+        RRR => open.replied | open.asked & replicas,
+        WRW => open.replied | open.asked & replicas & (with_room(m, nr) | with_tag(m, nr, open.row.tag)),
+        WDR if open.row.tag.number == top => 0,
+        WDR => (open.replied | open.asked & directories) & !at_top(m, open),
+        _ => open.replied | open.asked & directories,
+    }
+}

@@ -1,0 +1,169 @@
+//! The premises under which an operation ends by the promised number of deliveries, each asked
+//! of the phase that it is in: what a phase has behind it is asked no more.
+
+use crate::open::{at_top, empty_slots, members, up, with_room, with_tag, Open};
+use crate::view;
+use copy::layout::*;
+use copy::{Numbers, Words};
+use std::fmt;
+
+/// A premise that fails, with its numbers. Parties stand as sets.
+#[derive(Clone, Copy, PartialEq, Eq, Debug)]
+pub enum Premise {
+    Client { client: u32 },
+    Directories { up: u32, gone: u32, of: u32, reading: Option<u32>, writing: u32 },
+    Replicas { down: u32, of: u32, f: u32 },
+    Set { set: u32 },
+    Room { full: u32, room: u32, wanted: u32 },
+    Top { directories: u32 },
+    TopRead,
+    Slots { empty: u32, wanted: u32 },
+}
+
+/// Empty slots asked in each phase: what is left of the 21 at the start when the phases before
+/// it have sent to five directories and seven replicas. The slot of a reply is used again.
+const SLOTS_WANTED: [u32; 7] = [0, 16, 12, 6, 16, 10, 6];
+
+pub fn failing(m: &Words, open: &Open) -> Vec<Premise> {
+    let asked = [
+        client(open),
+        directories(m, open),
+        replicas(m, open),
+        set(m, open),
+        room(m, open),
+        top(m, open),
+        top_read(open),
+        slots(m, open),
+    ];
+    asked.into_iter().flatten().collect()
+}
+
+fn client(open: &Open) -> Option<Premise> {
+    (open.row.down != 0).then_some(Premise::Client { client: open.client })
+}
+
+/// Who answered, or whose reply waits, counts in the present round though it be down now.
+fn directories(m: &Words, open: &Open) -> Option<Premise> {
+    let Numbers { nd, rq, wq, .. } = open.numbers;
+    let up = up(m, Party::Directory, nd);
+    let heard = open.row.answered | open.replied;
+    let (reading, now) = match open.row.phase {
+        RDR | WDR => (Some(rq), heard | up),
+        RDW | WDW => (None, heard | up),
+        WRW => (None, up),
+        _ => return None,
+    };
+    let enough = match reading {
+        Some(rq) => now.count_ones() >= rq && up.count_ones() >= wq,
+        None => now.count_ones() >= wq,
+    };
+    let gone = (now & !up).count_ones();
+    (!enough).then_some(Premise::Directories { up: up.count_ones(), gone, of: nd, reading, writing: wq })
+}
+
+/// Nobody waits for a replica in the last phase of a write.
+fn replicas(m: &Words, open: &Open) -> Option<Premise> {
+    let Numbers { nr, f, .. } = open.numbers;
+    let down = view::down_count(m, Party::Replica, nr);
+    (open.row.phase != WDW && down > f).then_some(Premise::Replicas { down, of: nr, f })
+}
+
+/// No premise of its own: with at most f down, a set of f + 1 has one that is up.
+fn set(m: &Words, open: &Open) -> Option<Premise> {
+    replicas(m, open)?;
+    let set = open.row.set;
+    let reachable = match open.row.phase {
+        RDW => up(m, Party::Replica, open.numbers.nr),
+        RRR => up(m, Party::Replica, open.numbers.nr) | open.replied,
+        _ => return None,
+    };
+    (set & reachable == 0).then_some(Premise::Set { set })
+}
+
+/// Full replicas that are up; where too few have room for want of replicas, `replicas` says so.
+fn room(m: &Words, open: &Open) -> Option<Premise> {
+    let Numbers { nr, f, .. } = open.numbers;
+    let up = up(m, Party::Replica, nr);
+    let able = match open.row.phase {
+        WDR => with_room(m, nr) & up,
+        WRW => (with_room(m, nr) | with_tag(m, nr, open.row.tag)) & up | open.row.answered | open.replied,
+        _ => return None,
+    };
+    let (full, room, wanted) = (up & !able, able.count_ones(), f + 1);
+    (room < wanted && full != 0).then_some(Premise::Room { full, room, wanted })
+}
+
+fn top(m: &Words, open: &Open) -> Option<Premise> {
+    let directories = if open.row.phase == WDR { at_top(m, open) } else { 0 };
+    (directories != 0).then_some(Premise::Top { directories })
+}
+
+fn top_read(open: &Open) -> Option<Premise> {
+    (open.row.phase == WDR && open.row.tag.number == open.numbers.top).then_some(Premise::TopRead)
+}
+
+fn slots(m: &Words, open: &Open) -> Option<Premise> {
+    let (empty, wanted) = (empty_slots(m), SLOTS_WANTED[open.row.phase as usize]);
+    (empty < wanted).then_some(Premise::Slots { empty, wanted })
+}
+
+impl fmt::Display for Premise {
+    fn fmt(&self, f: &mut fmt::Formatter<'_>) -> fmt::Result {
+        match *self {
+            Premise::Client { client } => write!(f, "client {client} is down"),
+            Premise::Directories { up, gone, of, reading, writing } => {
+                write!(f, "{up} of {of} directories {} up", is(up))?;
+                if gone > 0 {
+                    write!(f, " and {gone} replied before going down")?;
+                }
+                match reading {
+                    Some(reading) => write!(f, "; reading takes {reading} and writing {writing}"),
+                    None => write!(f, "; writing takes {writing}"),
+                }
+            }
+            Premise::Replicas { down, of, f: bearable } => {
+                write!(f, "{down} of {of} replicas {} down and f is {bearable}", is(down))
+            }
+            Premise::Set { set } => write!(f, "no replica of its set {{{}}} is up", commas(set)),
+            Premise::Room { full, room, wanted } => {
+                let has = if room == 1 { "has" } else { "have" };
+                write!(
+                    f,
+                    "no free entry at {}: {room} of the {wanted} that it needs {has} room",
+                    named("replica", full)
+                )
+            }
+            Premise::Top { directories } => {
+                let has = if directories.count_ones() == 1 { "has its" } else { "have their" };
+                write!(f, "{} {has} number at top: the write may end SPENT", named("directory", directories))
+            }
+            Premise::TopRead => write!(f, "it has read a number at top: the write can only end SPENT"),
+            Premise::Slots { empty, wanted } => {
+                let slots = if empty == 1 { "slot" } else { "slots" };
+                write!(f, "{empty} empty {slots}; {wanted} are wanted in this phase")
+            }
+        }
+    }
+}
+
+fn is(count: u32) -> &'static str {
+    if count == 1 {
+        "is"
+    } else {
+        "are"
+    }
+}
+
+fn commas(set: u32) -> String {
+    members(set).map(|id| id.to_string()).collect::<Vec<_>>().join(", ")
+}
+
+/// "replica 3", "replicas 1 and 4", "replicas 1, 2 and 4".
+fn named(party: &str, set: u32) -> String {
+    let many = if party == "directory" { "directories" } else { "replicas" };
+    let last = members(set).last().unwrap_or(0);
+    match set.count_ones() {
+        0 | 1 => format!("{party} {last}"),
+        _ => format!("{many} {} and {last}", commas(set & !bit(last))),
+    }
+}

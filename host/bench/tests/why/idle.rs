@@ -1,0 +1,49 @@
+//! Idle clients that may start, by the premises of the theorem.
+
+use bench::open::{up, with_room};
+use bench::view;
+use copy::answer::{READ_ENDED, WRITE_ENDED};
+use copy::directory::Directory;
+use copy::layout::*;
+use copy::line::Call;
+use copy::rehearsal::run;
+use copy::{Numbers, Words};
+
+/// The premises of a read, as the theorem has them of an idle client.
+pub fn may_read(m: &Words, n: &Numbers, client: u32) -> bool {
+    view::startable(m, n).contains(&client)
+        && view::down_count(m, Party::Replica, n.nr) <= n.f
+        && up(m, Party::Directory, n.nd).count_ones() >= n.rq.max(n.wq)
+        && SLOTS - view::waiting(m).len() >= 21
+}
+
+/// What a write asks besides.
+pub fn may_write(m: &Words, n: &Numbers, client: u32) -> bool {
+    let at_top = |id: u32| !view::is_down(m, Party::Directory, id) && Directory::read(m, id).tag.number == n.top;
+    may_read(m, n, client)
+        && (up(m, Party::Replica, n.nr) & with_room(m, n.nr)).count_ones() > n.f
+        && !(1..=n.nd).any(at_top)
+}
+
+/// Start, promised price and the code of the end.
+pub fn a_read(n: &Numbers, client: u32) -> (Call, u32, u32) {
+    (Call::Read { client }, 2 * n.rq + 2 * n.wq + 2, READ_ENDED)
+}
+
+pub fn a_write(n: &Numbers, client: u32) -> (Call, u32, u32) {
+    (Call::Write { client, word: 1 << 31 }, 2 * n.rq + 2 * n.wq + 2 * n.f + 2, WRITE_ENDED)
+}
+
+pub fn started(m: &Words, start: Call) -> Box<Words> {
+    let mut words = Box::new(*m);
+    assert!(run(&mut words, start).answer.accepted());
+    words
+}
+
+/// Operations that may be started in a state, by the theorem's premises.
+pub fn operations(m: &Words) -> Vec<(u32, (Call, u32, u32))> {
+    let n = Numbers::read(m);
+    let reads = (1..=n.nc).filter(|&client| may_read(m, &n, client)).map(|client| (client, a_read(&n, client)));
+    let writes = (1..=n.nc).filter(|&client| may_write(m, &n, client)).map(|client| (client, a_write(&n, client)));
+    reads.chain(writes).collect()
+}
