@@ -1,5 +1,5 @@
 -- What is asked can be met: three directories and three replicas after set-up, on any buffer, in both layouts. A read takes 10 deliveries, a write 12.
-use mathlib.Core.Path.{_≡_, refl, sym, ap, subst, _∙_}
+use mathlib.Core.Path.{_≡_, refl, ap, subst, _∙_}
 use mathlib.Core.Bool.{true}
 use mathlib.Core.List.{List, []}
 use Prim.Native.Nat.{ℕ, _≤_}

@@ -33,7 +33,7 @@ use Rattle.fewest.proofs.Held.{accepted-is, call-acts, Held, held, held
 
 record Costs (M : Machine) (c d : ℕ) (q : Call) (r : Result) : Type 0 where
   conf : r .machine .conf ≡ M .conf
-  next : Cost (r .machine .conf) c (r .machine .slots) (d + costOf q) (clientAt (r .machine) c)
+  next : Cost (M .conf) c (r .machine .slots) (d + costOf q) (clientAt (r .machine) c)
   price : r .answer .client ≡ c → priceOf (M .conf) (r .answer .code) ≤ d + costOf q
 
 -- a refusal ends nothing
@@ -88,7 +88,7 @@ module _ (lay : Layout) (few : lay .directories ≤ 16) (code c : ℕ) where
       → Answers lay code c m qs → priceOf (M .conf) code ≤ d + deliveries qs
   least [] d n H g a = absurd a
   least (q ∷ qs) d {M} {m} n (held G r t) g a =
-      go a (least qs (d + costOf q) (n′ .1) (held-call lay q (held G r t)) (k .next))
+      go a (least qs (d + costOf q) (n′ .1) (held-call lay q (held G r t)) (rw (k .conf) (k .next)))
     where
       n′ : T (not (isSetUp q)) × T (noSetUp qs)
       n′ = both (isSetUp q) _ n

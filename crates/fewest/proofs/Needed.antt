@@ -2,11 +2,10 @@
 use mathlib.Core.Path.{_≡_, refl}
 use mathlib.Core.Bool.{true}
 use mathlib.Core.List.{List, [], _∷_, _++_}
-use Prim.Native.Nat.{ℕ, zero, suc}
+use Prim.Native.Nat.{ℕ}
 use lib.Count.{ones, onesIn}
 use lib.ListN.{replicate}
 use Rattle.sets.specs.Tags.{against}
-use Rattle.tables.specs.declared.Conf.{Conf}
 use Rattle.tables.specs.Kinds.{senderOf, receiverOf}
 use Rattle.tables.specs.Tables.{Page, Machine, noPage, noClient, noDirectory, noEntry, noReplica, noMessage}
 use Rattle.mail.specs.Posts.{messagesOf}
@@ -15,7 +14,7 @@ use Rattle.rules.specs.Quorums.{enoughToRead, enoughToWrite}
 use Rattle.rules.specs.Directory.{directoryAfter, directoryPost}
 use Rattle.rules.specs.Replica.{entryWith, raised, highest, secure, write, hearGossip, read, tidied, replicaAfter, replicaPost, isFull, gossipPost}
 use Rattle.rules.specs.Client.{awaited, enoughFor, isStale, heard, chosen, turned, outcome, clientAfter, request, secures, clientPost}
-use Rattle.machine.specs.Calls.{Call, startRead, startWrite, deliver, gossip, crash, partyOf, startEffect, gossipEffect, tidyEffect, crashEffect}
+use Rattle.machine.specs.Calls.{Call, startRead, startWrite, gossip, crash, partyOf, startEffect, gossipEffect, tidyEffect, crashEffect}
 use Rattle.machine.specs.Deliver.{clientEffect, directoryEffect, replicaEffect, deliverEffect}
 use Rattle.machine.specs.Refusals.{refusal}
 use Rattle.machine.specs.Steps.{newMachine, effectOf, step}

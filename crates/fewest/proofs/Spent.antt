@@ -5,7 +5,7 @@ use mathlib.Core.List.{List}
 use Prim.Native.Nat.{ℕ, _+_, _*_, _^_, _≤_, _<_}
 use native.Mathlib.Decide.{ℕ-discrete}
 use native.Mathlib.Omega.{arith}
-use lib.Dec.{T, eqb, T-not}
+use lib.Dec.{eqb, T-not}
 use lib.Pow.{pow-pos}
 use Rattle.sets.specs.Plain.{if_then_else_}
 use Rattle.sets.specs.declared.Tag.{Tag}
@@ -18,10 +18,9 @@ use Rattle.tables.specs.declared.Message.{Message}
 use Rattle.tables.specs.declared.Party.{Party}
 use Rattle.tables.specs.declared.Party.the-variants.{Nobody, AClient, ADirectory, AReplica}
 use Rattle.tables.specs.Kinds.{senderOf, manyOf}
-use Rattle.tables.specs.Rows.{row, withRow}
-use Rattle.tables.specs.Tables.{Page, Machine, noClient, noMessage, clientAt, directoryAt, replicaAt, slotAt, noPage}
+use Rattle.tables.specs.Rows.{row}
+use Rattle.tables.specs.Tables.{Page, Machine, noMessage, clientAt, directoryAt, replicaAt, slotAt, noPage}
 use Rattle.tables.proofs.All.{All, all-map, all-row}
-use Rattle.mail.specs.Posts.{noPost}
 use Rattle.rules.specs.declared.Outcome.{Outcome}
 use Rattle.rules.specs.Answers.{answerOf}
 use Rattle.rules.specs.Replica.{gossipPost}
@@ -29,10 +28,10 @@ use Rattle.rules.specs.Client.{awaited, heard, moved, started, idle, clientAfte
 use Rattle.rules.proofs.Heard.{heard-keeps, heard-answered}
 use Rattle.rules.proofs.Views.{Timely, Completes, View, v-stale, v-waits, v-1, v-2, v-3, v-4, v-spent, v-5, v-6}
 use Rattle.machine.specs.Effects.{Effect, applied}
-use Rattle.machine.specs.Calls.{Call, downed, downClient, done}
+use Rattle.machine.specs.Calls.{Call, downClient}
 use Rattle.runs.proofs.Sound.{Sound}
 use Rattle.runs.proofs.Rows.{numbers-of}
-use Rattle.history.proofs.Rows.{row-ind, Sent, all-slots}
+use Rattle.history.proofs.Rows.{OfClient, of-downed, each-client, Sent, all-slots}
 use Rattle.history.proofs.Invariant.{MessageOk, Invariant}
 use Rattle.history.proofs.Keeping.{unsent}
 use Rattle.history.proofs.Acts.{Acts, Comes, reads, writes, drops, directs, stores, hears, gossips, tidies, crashes, reports, begun, answered}
@@ -240,17 +239,27 @@ abbrev pub costOf : Call → ℕ
 costOf q = if isDeliver q then 1 else 0
 
 module _ (M : Machine) (z : Sound M) (few : M .conf .directories ≤ 16) (v : Invariant M) (c d : ℕ) (g : Cost (M .conf) c (M .slots) d (clientAt M c)) where
-  begins : (a p : ℕ) (page : Page) (e : Effect) → paidBefore (M .conf) p ≡ 0 → Sent NoReply (e .post)
-      → Cost (M .conf) c (applied e M .slots) (d + 0) (row noClient (withRow (M .clients) a (started (clientAt M a) p page)) c)
-  begins a p page e l h =
-      row-ind (Cost (M .conf) c (applied e M .slots) (d + 0)) noClient (M .clients) a c (started (clientAt M a) p page)
-      (λ (q : a ≡ c). renewed M c v e h (subst (λ (b : ℕ). clientAt M b .number < clientAt M a .number + 1) q (omega arith)) refl (omega arith))
-      (quiet M c e h (omega arith) g)
+  -- of the row of client b, if it is the one whose operation is paid for
+  abbrev Paid : Effect → ℕ → ℕ → Client → Type 0
+  Paid e d′ b w = b ≡ c → Cost (M .conf) c (applied e M .slots) d′ w
 
-  pub spends : {q : Call} {e : Effect} → Acts M q e → Cost (applied e M .conf) c (applied e M .slots) (d + costOf q) (clientAt (applied e M) c)
+  -- an effect that posts no reply
+  asks : (e : Effect) (d′ : ℕ) → d ≤ d′ → Sent NoReply (e .post) → OfClient (Paid e d′) (e .change) → Cost (M .conf) c (applied e M .slots) d′ (clientAt (applied e M) c)
+  asks e d′ l h y =
+      each-client (Paid e d′) M (e .change) y
+      (λ b (q : b ≡ c). subst (λ (a : ℕ). Cost (M .conf) c (applied e M .slots) d′ (clientAt M a)) (sym q) (quiet M c e h l g)) c refl
+
+  begins : (a p : ℕ) (page : Page) → paidBefore (M .conf) p ≡ 0
+      → Cost (M .conf) c (applied (begun M a p page) M .slots) (d + 0) (clientAt (applied (begun M a p page) M) c)
+  begins a p page l =
+      let h : Sent NoReply (begun M a p page .post) = λ _ _. request-asks (M .conf) a (started (clientAt M a) p page) in
+      asks (begun M a p page) (d + 0) (omega arith) h
+      (λ (q : a ≡ c). renewed M c v (begun M a p page) h (subst (λ (b : ℕ). clientAt M b .number < clientAt M a .number + 1) q (omega arith)) refl (omega arith))
+
+  pub spends : {q : Call} {e : Effect} → Acts M q e → Cost (M .conf) c (applied e M .slots) (d + costOf q) (clientAt (applied e M) c)
   unfolding gossipPost
-  spends (reads a _ _) = begins a 1 noPage (begun M a 1 noPage) refl (λ p m. request-asks (M .conf) a (started (clientAt M a) 1 noPage))
-  spends (writes a page _ _) = begins a 4 page (begun M a 4 page) refl (λ p m. request-asks (M .conf) a (started (clientAt M a) 4 page))
+  spends (reads a _ _) = begins a 1 noPage refl
+  spends (writes a page _ _) = begins a 4 page refl
   spends {e = e} (drops s page) = quiet M c e (unsent NoReply) (omega arith) g
   spends {e = e} (directs s page k) = answers M c e (slotAt M s .receiver) (k .receiver .low) (directory-own (slotAt M s) (directoryAt M (slotAt M s .receiver))) (omega arith) g
   spends {e = e} (stores s page k _) =
@@ -260,27 +269,20 @@ module _ (M : Machine) (z : Sound M) (few : M .conf .directories ≤ 16) (v : In
       let own : ℕ = slotAt M s .receiver in
       let y : Client = clientAfter (clientAt M own) (slotAt M s) o in
       let h = client-asks (M .conf) own (clientAt M own) y o in
-      row-ind (Cost (M .conf) c (applied e M .slots) (d + 1)) noClient (M .clients) own c y
+      asks e (d + 1) (omega arith) h
       (λ (q : own ≡ c).
       subst (λ (b : ℕ). Cost (M .conf) b (M .slots) d (clientAt M b) → Cost (M .conf) b (applied e M .slots) (d + 1) y) q
       (λ g. hears-own M z few v s page k d g e w h) g)
-      (quiet M c e h (omega arith) g)
   spends {e = e} (gossips from to _) = quiet M c e (λ p m h. h) (omega arith) g
   spends {e = e} (tidies r) = quiet M c e (unsent NoReply) (omega arith) g
-  spends (crashes kind id who _) = falls who
+  spends {e = e} (crashes kind id who _) =
+      asks e (d + 0) (omega arith) (unsent NoReply)
+      (of-downed (Paid e (d + 0)) M who id
+      (λ (q : id ≡ c). downs (subst (λ (b : ℕ). Cost (M .conf) c (applied e M .slots) (d + 0) (clientAt M b)) (sym q) (quiet M c e (unsent NoReply) (omega arith) g))))
     where
-      falls : (who : Party) → Cost (applied (done (downed M who id) noPost) M .conf) c (applied (done (downed M who id) noPost) M .slots) (d + 0) (clientAt (applied (done (downed M who id) noPost) M) c)
-      falls Nobody = quiet M c (done (downed M Nobody id) noPost) (unsent NoReply) (omega arith) g
-      falls AClient =
-          let e : Effect = done (downed M AClient id) noPost in
-          row-ind (Cost (M .conf) c (applied e M .slots) (d + 0)) noClient (M .clients) id c (downClient (clientAt M id))
-          (λ (q : id ≡ c).
-          subst (λ (b : ℕ). Cost (M .conf) b (M .slots) d (clientAt M b) → Cost (M .conf) b (applied e M .slots) (d + 0) (downClient (clientAt M id))) q
-          (λ g. quiet M id e (unsent NoReply) (omega arith)
-          (record { replied = g .replied; few = g .few; inside = g .inside; waits = g .waits; paid = g .paid })) g)
-          (quiet M c e (unsent NoReply) (omega arith) g)
-      falls ADirectory = quiet M c (done (downed M ADirectory id) noPost) (unsent NoReply) (omega arith) g
-      falls AReplica = quiet M c (done (downed M AReplica id) noPost) (unsent NoReply) (omega arith) g
+      -- its flag costs nothing
+      downs : {k : Conf} {ss : List Message} {d : ℕ} {w : Client} → Cost k c ss d w → Cost k c ss d (downClient w)
+      downs g = record { replied = g .replied; few = g .few; inside = g .inside; waits = g .waits; paid = g .paid }
   spends {e = e} reports = quiet M c e (unsent NoReply) (omega arith) g
 
   pub ends : {q : Call} {e : Effect} → Acts M q e → e .answer .client ≡ c → priceOf (M .conf) (e .answer .code) ≤ d + costOf q

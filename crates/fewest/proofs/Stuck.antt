@@ -1,7 +1,7 @@
 -- Where no deliver call is accepted, none ever is, however many are tried.
-use mathlib.Core.Path.{_≡_, refl, sym, subst}
-use mathlib.Core.Bool.{Bool, true, false, not, _&&_, _||_}
-use mathlib.Core.List.{List, [], _∷_, _++_}
+use mathlib.Core.Path.{_≡_, refl}
+use mathlib.Core.Bool.{Bool, false, not, _&&_, _||_}
+use mathlib.Core.List.{List, [], _∷_}
 use Prim.Native.Nat.{ℕ, _≤_}
 use native.Mathlib.Omega.{arith}
 use borrow.Author.Tests.{ne-eqb}
@@ -13,8 +13,8 @@ use Rattle.tables.specs.Tables.{Machine, noPage}
 use Rattle.tables.proofs.Lists.{none-passes}
 use Rattle.inspect.specs.Good.{between}
 use Rattle.machine.specs.Calls.{Call, deliver}
-use Rattle.machine.specs.Steps.{Result, effectOf, step}
-use Rattle.runs.proofs.Ways.{StepWay, refuses, accepts, step-way, effect-code, allowed}
+use Rattle.machine.specs.Steps.{Result, step}
+use Rattle.runs.proofs.Ways.{StepWay, refuses, accepts, step-way, allowed}
 use Rattle.runs.proofs.Refused.{step-accepts}
 use Rattle.history.proofs.Shape.{Among, among}
 use Rattle.fewest.specs.Fewest.{delivering}

@@ -1,9 +1,9 @@
 -- How an operation hangs: the words of the examples that show each premise to be needed.
-use Rattle.sets.specs.Plain.{_≡_, Bool, true, false, not, _&&_, _||_, ℕ, leb, eqb, List, [], _∷_, map, numbers, if_then_else_}
+use Rattle.sets.specs.Plain.{_≡_, Bool, true, false, not, _&&_, _||_, ℕ, leb, eqb, List, [], _∷_, map, numbers}
 use Rattle.tables.specs.Rows.{some?}
 use Rattle.tables.specs.Tables.{Machine, noPage}
 use Rattle.machine.specs.Calls.{Call, deliver}
-use Rattle.machine.specs.Steps.{Result, step}
+use Rattle.machine.specs.Steps.{step}
 use Rattle.fewest.specs.Fewest.{delivering}
 
 -- the machine after some calls
