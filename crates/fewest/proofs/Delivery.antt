@@ -1,80 +1,99 @@
 -- A delivery that is accepted: what it leads to, which messages wait afterwards, and how many slots are empty.
 use mathlib.Core.Path.{_≡_, refl, sym, ap, subst, _∙_}
-use mathlib.Core.Bool.{Bool, true, false, not}
-use mathlib.Core.List.{[], _∷_, List·Memᴰ}
-use Prim.Native.Nat.{ℕ, suc, _+_, _≤_, _<_}
-use native.Mathlib.Decide.{ℕ-discrete}
+use mathlib.Core.Bool.{true, false, not}
+use mathlib.Core.List.{List, Memᴰ·map}
+use Prim.Native.Nat.{ℕ, suc, _+_, _≤_}
 use native.Mathlib.Omega.{arith}
 use borrow.Author.Tests.{le-leb, le-ltb}
-use lib.ListN.{length, getD, set, length-set}
-use lib.Seq.{getD-set-other}
+use lib.Dec.{T}
+use lib.ListN.{length, set}
+use Rattle.sets.specs.Inner.{_∈_}
+use Rattle.sets.proofs.Members.{in-members}
 use Rattle.tables.specs.declared.Message.{Message}
 use Rattle.tables.specs.Tables.{Page, Machine, noPage, noMessage, isEmpty, slotAt}
 use Rattle.mail.specs.declared.Post.{Post}
+use Rattle.mail.specs.Posts.{toReceiver, messagesOf}
+use Rattle.mail.specs.Slots.{placed, emptySlots}
+use Rattle.mail.proofs.Messages.{count-more}
 use Rattle.rules.specs.declared.Answer.{Answer}
-use Rattle.mail.specs.Posts.{messagesOf}
-use Rattle.inspect.specs.Good.{between}
-use Rattle.mail.specs.Slots.{emptySlots}
-use Rattle.machine.specs.Effects.{Change, Effect, applied}
+use Rattle.machine.specs.Effects.{Change, applied}
 use Rattle.machine.specs.Calls.{deliver}
 use Rattle.machine.specs.Deliver.{taken, deliverEffect}
-use Rattle.machine.specs.Refusals.{isOverfull, noSlot, firstOf, refusal}
-use Rattle.machine.specs.Steps.{effectOf, step}
-use Rattle.mail.proofs.Messages.{count-more, length-placed}
-use Rattle.fewest.proofs.Waiting.{Somewhere, placed-count, placed-keeps, placed-has}
+use Rattle.machine.specs.Refusals.{isOverfull}
+use Rattle.machine.specs.Steps.{Result, effectOf, step}
+use Rattle.machine.specs.Buffers.{wrongPage}
+use Rattle.runs.proofs.Ways.{codeOf, allows}
+use Rattle.history.proofs.Walk.{Good}
+use Rattle.fewest.proofs.Held.{step-good}
+use Rattle.fewest.proofs.Waiting.{Somewhere, at, found, placed-count, placed-keeps, freed-keeps, placed-has}
 
--- no line of the table applies
-all-clear : (a b c d : Bool) → a ≡ false → b ≡ false → c ≡ false → d ≡ false
-    → firstOf ((18, a) ∷ (19, false) ∷ (20, false) ∷ (21, false) ∷ (22, b) ∷ (23, c) ∷ (24, d) ∷ []) ≡ 0
-all-clear a b c d p q r s = rw (p, q, r, s)
+-- n deliveries, of which the last answers with the code for client c
+pub data Ends (code c : ℕ) : ℕ → Machine → Type 0 where
+  last : {M : Machine} (s : ℕ) → step (deliver s noPage) M .answer .code ≡ code → step (deliver s noPage) M .answer .client ≡ c → Ends code c 1 M
+  more : {M : Machine} {n : ℕ} (s : ℕ) → Ends code c n (step (deliver s noPage) M .machine) → Ends code c (suc n) M
+
+-- a delivery has a page to fill
+pub paged : (s : ℕ) → T (not (wrongPage (deliver s noPage)))
+unfolding noPage
+paged s = tt
+
+-- what is posted waits, where there is room for all of it
+pub posted : {P : Message → Type 0} (y : Post) (ss : List Message) → length (messagesOf y) ≤ emptySlots ss → isEmpty (y .message) ≡ false
+    → (r : ℕ) → 1 ≤ r → r ≤ 16 → r ∈ y .to → P (toReceiver (y .message) r) → Somewhere P (placed (messagesOf y) ss)
+unfolding messagesOf
+posted y ss h f r l g m p = placed-has (toReceiver (y .message) r) f p (messagesOf y) ss h (Memᴰ·map (toReceiver (y .message)) (in-members 16 (y .to) r l g m))
 
 blank : isEmpty noMessage ≡ true
 unfolding noMessage
 blank = refl
 
-module _ (M : Machine) (i : ℕ) (inside : i < length (M .slots)) (long : length (M .slots) ≡ 128) (full : isEmpty (slotAt M (suc i)) ≡ false) where
-  freed-more : emptySlots (set (M .slots) i noMessage) ≡ emptySlots (M .slots) + 1
-  freed-more = count-more isEmpty noMessage noMessage (M .slots) i inside full blank
+-- the message s is delivered, with this effect
+pub record Taken (M : Machine) {P : Message → Type 0} (s : Somewhere P (M .slots)) (ch : Change) (y : Post) (a : Answer) (pg : Page) : Type 0 where
+  pub good : Good M
+  pub does : deliverEffect M (suc (at s)) noPage ≡ taken (suc (at s)) ch y a pg
+  pub free : isOverfull M (slotAt M (suc (at s))) ≡ false
+  pub room : length (messagesOf y) ≤ emptySlots (M .slots) + 1
 
-  module _ (ch : Change) (y : Post) (a : Answer) (pg : Page) (does : deliverEffect M (suc i) noPage ≡ taken (suc i) ch y a pg)
-      (free : isOverfull M (slotAt M (suc i)) ≡ false) (room : length (messagesOf y) ≤ emptySlots (M .slots) + 1) where
-    abbrev e : Effect
-    e = taken (suc i) ch y a pg
+module _ {M : Machine} {P : Message → Type 0} {s : Somewhere P (M .slots)} {ch : Change} {y : Post} {a : Answer} {pg : Page} (t : Taken M s ch y a pg) where
+  abbrev after : Machine
+  after = applied (taken (suc (at s)) ch y a pg) M
 
-    in-range : not (between 1 128 (suc i)) ≡ false
-    in-range = rw (le-leb 1 (suc i) (omega arith), le-leb (suc i) 128 (omega arith))
+  freed-more : emptySlots (set (M .slots) (at s) noMessage) ≡ emptySlots (M .slots) + 1
+  freed-more = count-more isEmpty noMessage noMessage (M .slots) (at s) (found s .inside) (found s .full) blank
 
-    has-slots : noSlot M e ≡ false
-    has-slots = le-ltb (emptySlots (set (M .slots) i noMessage)) (length (messagesOf y)) (omega (arith, freed-more))
+  accepts : codeOf (deliver (suc (at s)) noPage) M ≡ 0
+  unfolding effectOf
+  accepts =
+      allows (deliver (suc (at s)) noPage) M (record {
+        argument = rw (le-leb 1 (suc (at s)) (omega arith), le-leb (suc (at s)) 128 (omega (arith, found s .inside, t .good .sound .whole .slots))) tt;
+        up = tt;
+        idle = tt;
+        unworn = tt;
+        filled = rw (found s .full) tt;
+        free = rw (t .free) tt;
+        slots = rw (t .does, le-ltb (emptySlots (set (M .slots) (at s) noMessage)) (length (messagesOf y)) (omega (arith, freed-more, t .room))) tt;
+      })
 
-    no-refusal : refusal (deliver (suc i) noPage) M (deliverEffect M (suc i) noPage) ≡ 0
-    unfolding refusal
-    no-refusal = rw does (all-clear (not (between 1 128 (suc i))) (isEmpty (slotAt M (suc i))) (isOverfull M (slotAt M (suc i))) (noSlot M e) in-range full free has-slots)
+  delivered : step (deliver (suc (at s)) noPage) M ≡ record { answer = a; page = pg; machine = after }
+  unfolding step effectOf
+  delivered = rw (accepts, t .does)
 
-    pub delivered : step (deliver (suc i) noPage) M ≡ record { answer = a; page = pg; machine = applied e M }
-    unfolding step effectOf
-    delivered = rw (no-refusal, does)
+  pub good-after : Good after
+  good-after = subst Good (ap (λ (r : Result). r .machine) delivered) (step-good (deliver (suc (at s)) noPage) M (t .good) (paged (suc (at s))))
 
-    pub room-after : (E F : ℕ) → E ≤ emptySlots (M .slots) → F + length (messagesOf y) ≤ E + 1 → F ≤ emptySlots (applied e M .slots)
-    room-after E F h k = omega (arith, placed-count (messagesOf y) (set (M .slots) i noMessage), freed-more)
+  pub room-after : (E F : ℕ) → E ≤ emptySlots (M .slots) → F + length (messagesOf y) ≤ E + 1 → F ≤ emptySlots (after .slots)
+  room-after E F h k = omega (arith, placed-count (messagesOf y) (set (M .slots) (at s) noMessage), freed-more)
 
-    pub slots-long : length (applied e M .slots) ≡ 128
-    slots-long = length-placed (messagesOf y) (set (M .slots) i noMessage) ∙ length-set (M .slots) i noMessage ∙ long
+  -- another message waits on, and one that is sent waits
+  pub waits-on : {Q : Message → Type 0} → (Q (slotAt M (suc (at s))) → ⊥) → Somewhere Q (M .slots) → Somewhere Q (after .slots)
+  waits-on n w = placed-keeps (messagesOf y) (freed-keeps (at s) n w)
 
-    -- a message that is another stays
-    pub waits-on : (P : Message → Type 0) → ((x : Message) → P x → isEmpty x ≡ false) → (P (slotAt M (suc i)) → ⊥) → Somewhere P (M .slots) → Somewhere P (applied e M .slots)
-    waits-on P f n w = go (ℕ-discrete (w .at) i)
-      where
-        go : Dec (w .at ≡ i) → Somewhere P (applied e M .slots)
-        go (yes q) = absurd (n (subst (λ (j : ℕ). P (getD (M .slots) j noMessage)) q (w .here)))
-        go (no q) =
-            let u : getD (set (M .slots) i noMessage) (w .at) noMessage ≡ getD (M .slots) (w .at) noMessage = getD-set-other (M .slots) i (w .at) noMessage noMessage q in
-            record {
-              at = w .at;
-              inside = rw slots-long (rw long at (w .inside));
-              here = subst P (sym (placed-keeps (messagesOf y) (set (M .slots) i noMessage) (w .at) (ap isEmpty u ∙ f _ (w .here)) ∙ u)) (w .here);
-            }
+  pub sends : {Q : Message → Type 0} → isEmpty (y .message) ≡ false → (r : ℕ) → 1 ≤ r → r ≤ 16 → r ∈ y .to → Q (toReceiver (y .message) r) → Somewhere Q (after .slots)
+  sends f = posted y (set (M .slots) (at s) noMessage) (omega (arith, freed-more, t .room)) f
 
-    -- a message that is sent waits
-    pub sends : (P : Message → Type 0) (x : Message) → List·Memᴰ x (messagesOf y) → P x → isEmpty x ≡ false → Somewhere P (applied e M .slots)
-    sends P x m q f = placed-has P x q f (messagesOf y) (set (M .slots) i noMessage) (omega (arith, freed-more)) m
+  -- it is one of the deliveries
+  pub ends-more : {code c n : ℕ} → Ends code c n after → Ends code c (suc n) M
+  ends-more {code} {c} {n} e = more (suc (at s)) (subst (Ends code c n) (sym (ap (λ (r : Result). r .machine) delivered)) e)
+
+  pub ends-last : {code c : ℕ} → a .code ≡ code → a .client ≡ c → Ends code c 1 M
+  ends-last p q = last (suc (at s)) (ap (λ (r : Result). r .answer .code) delivered ∙ p) (ap (λ (r : Result). r .answer .client) delivered ∙ q)

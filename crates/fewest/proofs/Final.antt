@@ -1,48 +1,37 @@
 -- HOW FEW DELIVERIES WILL DO, over a lent buffer: any buffer, an accepted set-up, any calls after it, and then what is asked.
-use mathlib.Core.Path.{_≡_, refl, sym, ap, subst, _∙_}
+use mathlib.Core.Path.{_≡_, refl, ap, subst, _∙_}
 use mathlib.Core.Bool.{Bool, true, false, not}
 use mathlib.Core.List.{List, [], _∷_}
 use mathlib.Core.Logic.{inl, inr}
-use Prim.Native.Nat.{ℕ, suc, _+_, _*_, _^_, _≤_, _<_}
-use native.Mathlib.Omega.{arith}
+use Prim.Native.Nat.{ℕ, suc, _+_, _≤_}
 use borrow.Author.Tests.{eq-eqb}
 use lib.Dec.{T, eqb, eqb→eq}
 use lib.ListN.{length}
 use Rattle.sets.specs.Plain.{if_then_else_}
-use Rattle.sets.specs.Sets.{size, all}
-use Rattle.sets.proofs.Laws.{size-all}
 use Rattle.sets.proofs.Tests.{not-not}
 use Rattle.tables.specs.declared.Layout.{Layout}
 use Rattle.tables.specs.declared.Conf.{Conf}
-use Rattle.tables.specs.declared.Client.{Client}
 use Rattle.tables.specs.declared.Party.the-variants.{AClient}
 use Rattle.tables.specs.Tables.{Page, Machine, noPage, clientAt}
 use Rattle.tables.specs.Machines.{machineOf}
 use Rattle.tables.proofs.Whole.{Paged}
 use Rattle.inspect.specs.Good.{isParty}
-use Rattle.rules.specs.Answers.{coded}
 use Rattle.rules.specs.declared.Answer.{Answer}
-use Rattle.rules.specs.Client.{started, request}
-use Rattle.machine.specs.Effects.{client, applied}
-use Rattle.machine.specs.Calls.{Call, setUp, startRead, startWrite, deliver, done}
+use Rattle.machine.specs.Effects.{client}
+use Rattle.machine.specs.Calls.{Call, setUp, startRead, startWrite, deliver}
 use Rattle.machine.specs.Refusals.{isBusy}
 use Rattle.machine.specs.Steps.{Result, pageIn, refused, step}
 use Rattle.machine.specs.Buffers.{wrongPage, call}
 use Rattle.runs.proofs.Runs.{sizedStep}
-use Rattle.runs.proofs.Rows.{numbers-of}
 use Rattle.history.proofs.Shape.{among}
 use Rattle.history.proofs.Walk.{Good}
-use Rattle.fewest.specs.Fewest.{deliveries, noSetUp, leastToRead, leastToWrite, readPrice, writePrice, bufferAfter, Answers, delivering, Takes, askedToRead, askedToWrite, allOf}
-use Rattle.fewest.proofs.Ready.{Ready, ReadyToWrite, ready, ready-to-write}
-use Rattle.fewest.proofs.Quorums.{mostDirectories}
+use Rattle.fewest.specs.Fewest.{deliveries, noSetUp, readPrice, writePrice, bufferAfter, Answers, delivering, Takes, askedToRead, askedToWrite, allOf}
+use Rattle.fewest.proofs.Ready.{Ready, ready, ready-to-write}
 use Rattle.fewest.proofs.Spent.{priceOf}
-use Rattle.fewest.proofs.Held.{step-good, Held, held-answer, held-call, held-good, held-few, held-reached}
+use Rattle.fewest.proofs.Held.{Held, held-answer, held-call, held-good, held-few, held-reached}
 use Rattle.fewest.proofs.Least.{no-fewer}
-use Rattle.fewest.proofs.Serve.{paged}
-use Rattle.fewest.proofs.Turn.{to-1, to-4}
-use Rattle.fewest.proofs.Rounds.{Ends, last, more}
-use Rattle.fewest.proofs.Start.{opens, read-starts, write-starts}
-use Rattle.fewest.proofs.Phases.{small-all, one, four}
+use Rattle.fewest.proofs.Delivery.{Ends, last, more, paged}
+use Rattle.fewest.proofs.Start.{read-begins, read-ends, write-begins, write-ends}
 
 -- ---- a sequence of deliveries on a buffer
 
@@ -76,54 +65,6 @@ module _ (lay : Layout) (code c : ℕ) where
       let a = answer-is (deliver s noPage) H (paged s) in
       inl (ap (λ (x : Answer). x .code) a ∙ p, ap (λ (x : Answer). x .client) a ∙ q)
   ends-so (more s e) H = inr (ends-so e (held-step (deliver s noPage) H (paged s)))
-
--- ---- from a good machine
-
-priced : (k : Conf) (c : ℕ) {N : Machine} → Ends 2 c (2 * leastToRead k + (2 * (k .f + 1) + 2 * leastToWrite k)) N → Ends 2 c (writePrice k) N
-priced k c {N} e = subst (λ (z : ℕ). Ends 2 c z N) (omega arith) e
-
-module _ (M : Machine) (G : Good M) (few-directories : M .conf .directories ≤ 16) (c : ℕ) (R : Ready M c) where
-  few : all (M .conf .directories) < 2 ^ 16
-  few = small-all (M .conf .directories) few-directories
-
-  most : size (all (M .conf .directories)) ≤ mostDirectories M
-  most = omega (arith, numbers-of (G .sound) .few-directories, size-all (M .conf .directories))
-
-  some-top : 0 < M .conf .top
-  some-top = omega (arith, numbers-of (G .sound) .some-rounds)
-
-  -- start read
-  abbrev first : Client
-  first = started (clientAt M c) 1 noPage
-
-  to-all : request (M .conf) c first .to ≡ all (M .conf .directories)
-  to-all = to-1 (M .conf) c first refl
-
-  read-begins : step (startRead c) M ≡ record { answer = coded 0; page = []; machine = applied (done (client c first) (request (M .conf) c first)) M }
-  read-begins = read-starts M G c R (rw to-all few) (rw to-all most)
-
-  read-ends : Ends 1 c (readPrice (M .conf)) (step (startRead c) M .machine)
-  read-ends =
-      let e = ap (λ (r : Result). r .machine) read-begins in
-      let o = opens M G c R 1 noPage (rw to-all few) (rw to-all most) tt some-top (subst Good e (step-good (startRead c) M G tt)) in
-      subst (Ends 1 c (readPrice (M .conf))) (sym e) (one M G few-directories c R (o .kept) o)
-
-  -- start write
-  module _ (page : Page) where
-    abbrev fourth : Client
-    fourth = started (clientAt M c) 4 page
-
-    to-each : request (M .conf) c fourth .to ≡ all (M .conf .directories)
-    to-each = to-4 (M .conf) c fourth refl
-
-    write-begins : step (startWrite c page) M ≡ record { answer = coded 0; page = []; machine = applied (done (client c fourth) (request (M .conf) c fourth)) M }
-    write-begins = write-starts M G c R page (rw to-each few) (rw to-each most)
-
-    write-ends : T (not (wrongPage (startWrite c page))) → ReadyToWrite M c → Ends 2 c (writePrice (M .conf)) (step (startWrite c page) M .machine)
-    write-ends h W =
-        let e = ap (λ (r : Result). r .machine) write-begins in
-        let o = opens M G c R 4 page (rw to-each few) (rw to-each most) tt some-top (subst Good e (step-good (startWrite c page) M G h)) in
-        subst (Ends 2 c (writePrice (M .conf))) (sym e) (priced (M .conf) c (four M G few-directories c R W o))
 
 -- ---- THE THEOREMS
 

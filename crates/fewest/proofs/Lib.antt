@@ -1,4 +1,4 @@
--- EACH PREMISE IS NEEDED: Needed, Stuck. NO FEWER: Replies, Spent, Held, Least. SO MANY DO: the rest, up to Phases. Both together: Final, and an Example.
+-- EACH PREMISE IS NEEDED: Needed, Stuck. NO FEWER: Replies, Spent, Held, Least. SO MANY DO: Waiting to Start. Both together: Final, and an Example.
 pub mod Needed
 pub mod Quorums
 pub mod Ready
@@ -11,10 +11,10 @@ pub mod Waiting
 pub mod Delivery
 pub mod Serve
 pub mod Turn
-pub mod Rounds
 pub mod Choose
-pub mod Start
+pub mod Rounds
 pub mod Voters
 pub mod Phases
+pub mod Start
 pub mod Final
 pub mod Example

@@ -1,99 +1,84 @@
 -- Empty slots and waiting messages, as slots are emptied and filled.
-use mathlib.Core.Path.{_≡_, refl, sym, ap, subst, _∙_}
+use mathlib.Core.Path.{_≡_, subst}
 use mathlib.Core.Bool.{Bool, true, false}
 use mathlib.Core.List.{List, [], _∷_, List·Memᴰ, List·Memᴰ·cases-cons, List·Memᴰ·not-nil}
-use mathlib.Core.Logic.{_⊎_, inl, inr}
+use mathlib.Core.Logic.{⊎-elim}
 use Prim.Native.Nat.{ℕ, zero, suc, _+_, _≤_, _<_}
 use native.Mathlib.Omega.{arith}
-use lib.ListN.{length, getD, length-set}
+use lib.ListN.{length, getD, set}
 use Rattle.sets.specs.Plain.{if_then_else_}
+use Rattle.sets.proofs.Tests.{if-ind}
 use Rattle.tables.specs.declared.Message.{Message}
-use Rattle.tables.specs.Rows.{count, putFirst}
-use Rattle.tables.specs.Inner.{before}
+use Rattle.tables.specs.Rows.{putFirst}
 use Rattle.tables.specs.Tables.{noMessage, isEmpty}
-use Rattle.tables.proofs.Lists.{putFirst-set}
 use Rattle.mail.specs.Slots.{placed, emptySlots}
-use Rattle.mail.proofs.Messages.{length-placed}
 
--- ---- the first row that passes a test is replaced
+-- P of a message in some slot that is not empty
+pub data Somewhere (P : Message → Type 0) : List Message → Type 0 where
+  here : {x : Message} {ss : List Message} → isEmpty x ≡ false → P x → Somewhere P (x ∷ ss)
+  there : {x : Message} {ss : List Message} → Somewhere P ss → Somewhere P (x ∷ ss)
 
-module _ {A : Type 0} (p : A → Bool) (d x : A) where
-  put-length : (l : List A) → length (putFirst p x l) ≡ length l
-  put-length l = ap length (putFirst-set p x l) ∙ length-set l (before p l) x
+-- slots count from 0 here
+abbrev pub at : {P : Message → Type 0} {ss : List Message} → Somewhere P ss → ℕ
+at (here f p) = 0
+at (there s) = suc (at s)
 
-  put-count : (l : List A) → count p l ≤ count p (putFirst p x l) + 1
-  put-count [] = omega arith
-  put-count (y ∷ l) = go (p y) (p x) (put-count l)
-    where
-      go : (b e : Bool) → count p l ≤ count p (putFirst p x l) + 1 → (if b then suc (count p l) else count p l) ≤ count p (if b then x ∷ l else y ∷ putFirst p x l) + 1
-      go true e h = leaves (p x)
-        where
-          leaves : (b : Bool) → suc (count p l) ≤ (if b then suc (count p l) else count p l) + 1
-          leaves true = omega arith
-          leaves false = omega arith
-      go false e h = keeps (p y)
-        where
-          keeps : (b : Bool) → count p l ≤ (if b then suc (count p (putFirst p x l)) else count p (putFirst p x l)) + 1
-          keeps true = omega arith
-          keeps false = h
+pub record Found (P : Message → Type 0) (ss : List Message) (i : ℕ) : Type 0 where
+  pub inside : i < length ss
+  pub full : isEmpty (getD ss i noMessage) ≡ false
+  pub is : P (getD ss i noMessage)
 
-  -- a row that fails the test stays
-  put-keeps : (l : List A) (i : ℕ) → p (getD l i d) ≡ false → getD (putFirst p x l) i d ≡ getD l i d
-  put-keeps [] i h = refl
-  put-keeps (y ∷ l) i h = go (p y) refl i h (put-keeps l)
-    where
-      go : (b : Bool) → p y ≡ b → (i : ℕ) → p (getD (y ∷ l) i d) ≡ false → ((i : ℕ) → p (getD l i d) ≡ false → getD (putFirst p x l) i d ≡ getD l i d)
-          → getD (if b then x ∷ l else y ∷ putFirst p x l) i d ≡ getD (y ∷ l) i d
-      go true e zero h f = absurd (clash (sym e ∙ h))
-        where
-          clash : true ≡ false → ⊥
-          clash q = let z : _≡_ {A = ℕ} 0 1 = cc in omega arith
-      go true e (suc i) h f = refl
-      go false e zero h f = refl
-      go false e (suc i) h f = f i h
+pub found : {P : Message → Type 0} {ss : List Message} → (s : Somewhere P ss) → Found P ss (at s)
+found (here f p) = record { inside = omega arith; full = f; is = p }
+found (there s) = let r = found s in record { inside = omega (arith, r .inside); full = r .full; is = r .is }
 
-  -- where one passes, x stands afterwards
-  put-here : (l : List A) → 1 ≤ count p l → (i : ℕ) × (i < length l) × (getD (putFirst p x l) i d ≡ x)
-  put-here [] h = absurd (omega arith)
-  put-here (y ∷ l) h = go (p y) h (put-here l)
-    where
-      go : (b : Bool) → 1 ≤ (if b then suc (count p l) else count p l) → (1 ≤ count p l → (i : ℕ) × (i < length l) × (getD (putFirst p x l) i d ≡ x))
-          → (i : ℕ) × (i < suc (length l)) × (getD (if b then x ∷ l else y ∷ putFirst p x l) i d ≡ x)
-      go true h f = (0, omega arith, refl)
-      go false h f = let r = f h in (suc (r .0), omega (arith, r .1), r .2)
+-- ---- a message enters the first empty slot
 
--- ---- slots
+one-more : (b : Bool) (n : ℕ) → n ≤ (if b then suc n else n)
+one-more true n = omega arith
+one-more false n = omega arith
 
--- P of the message in some slot; slots count from 0 here
-pub record Somewhere (P : Message → Type 0) (ss : List Message) : Type 0 where
-  pub at : ℕ
-  pub inside : at < length ss
-  pub here : P (getD ss at noMessage)
+put-count : (x : Message) (ss : List Message) → emptySlots ss ≤ emptySlots (putFirst isEmpty x ss) + 1
+put-count x [] = omega arith
+put-count x (y ∷ ss) = go (isEmpty y) (put-count x ss)
+  where
+    go : (b : Bool) → emptySlots ss ≤ emptySlots (putFirst isEmpty x ss) + 1
+        → (if b then suc (emptySlots ss) else emptySlots ss) ≤ emptySlots (if b then x ∷ ss else y ∷ putFirst isEmpty x ss) + 1
+    go true h = omega (arith, one-more (isEmpty x) (emptySlots ss))
+    go false h = omega (arith, one-more (isEmpty y) (emptySlots (putFirst isEmpty x ss)))
 
 pub placed-count : (xs ss : List Message) → emptySlots ss ≤ emptySlots (placed xs ss) + length xs
 placed-count [] ss = omega arith
-placed-count (x ∷ xs) ss = omega (arith, placed-count xs (putFirst isEmpty x ss), put-count isEmpty noMessage x ss)
+placed-count (x ∷ xs) ss = omega (arith, placed-count xs (putFirst isEmpty x ss), put-count x ss)
 
-pub placed-keeps : (xs ss : List Message) (i : ℕ) → isEmpty (getD ss i noMessage) ≡ false → getD (placed xs ss) i noMessage ≡ getD ss i noMessage
-placed-keeps [] ss i h = refl
-placed-keeps (x ∷ xs) ss i h =
-    let e = put-keeps isEmpty noMessage x ss i h in
-    placed-keeps xs (putFirst isEmpty x ss) i (rw e h) ∙ e
+module _ {P : Message → Type 0} where
+  put-keeps : (x : Message) {ss : List Message} → Somewhere P ss → Somewhere P (putFirst isEmpty x ss)
+  put-keeps x (here f p) = rw f (here f p)
+  put-keeps x (there {x = y} s) = if-ind (Somewhere P) (isEmpty y) (λ _. there s) (λ _. there (put-keeps x s))
 
-pub placed-has : (P : Message → Type 0) (y : Message) → P y → isEmpty y ≡ false → (xs ss : List Message) → length xs ≤ emptySlots ss → List·Memᴰ y xs → Somewhere P (placed xs ss)
-placed-has P y q f [] ss h m = absurd (List·Memᴰ·not-nil m)
-placed-has P y q f (x ∷ xs) ss h m = go (List·Memᴰ·cases-cons m) (placed-has P y q f xs (putFirst isEmpty x ss) (omega (arith, put-count isEmpty noMessage x ss)))
-  where
-    long : length (placed xs (putFirst isEmpty x ss)) ≡ length ss
-    long = length-placed xs (putFirst isEmpty x ss) ∙ put-length isEmpty noMessage x ss
+  put-here : (x : Message) (ss : List Message) → isEmpty x ≡ false → P x → 1 ≤ emptySlots ss → Somewhere P (putFirst isEmpty x ss)
+  put-here x [] f p h = absurd (omega arith)
+  put-here x (y ∷ ss) f p h = go (isEmpty y) h (put-here x ss f p)
+    where
+      go : (b : Bool) → 1 ≤ (if b then suc (emptySlots ss) else emptySlots ss) → (1 ≤ emptySlots ss → Somewhere P (putFirst isEmpty x ss))
+          → Somewhere P (if b then x ∷ ss else y ∷ putFirst isEmpty x ss)
+      go true h r = here f p
+      go false h r = there (r h)
 
-    go : (y ≡ x) ⊎ List·Memᴰ y xs → (List·Memᴰ y xs → Somewhere P (placed xs (putFirst isEmpty x ss))) → Somewhere P (placed xs (putFirst isEmpty x ss))
-    go (inr n) f′ = f′ n
-    go (inl e) _ =
-        let r = put-here isEmpty noMessage x ss (omega arith) in
-        let u : getD (putFirst isEmpty x ss) (r .0) noMessage ≡ y = r .2 ∙ sym e in
-        record {
-          at = r .0;
-          inside = rw long (r .1);
-          here = subst P (sym (placed-keeps xs (putFirst isEmpty x ss) (r .0) (ap isEmpty u ∙ f) ∙ u)) q;
-        }
+  -- what waits stays, but where its slot is emptied
+  pub placed-keeps : (xs : List Message) {ss : List Message} → Somewhere P ss → Somewhere P (placed xs ss)
+  placed-keeps [] s = s
+  placed-keeps (x ∷ xs) s = placed-keeps xs (put-keeps x s)
+
+  pub freed-keeps : {ss : List Message} (i : ℕ) → (P (getD ss i noMessage) → ⊥) → Somewhere P ss → Somewhere P (set ss i noMessage)
+  freed-keeps zero n (here f p) = absurd (n p)
+  freed-keeps (suc i) n (here f p) = here f p
+  freed-keeps zero n (there s) = there s
+  freed-keeps (suc i) n (there s) = there (freed-keeps i n s)
+
+  -- what is sent waits
+  pub placed-has : (y : Message) → isEmpty y ≡ false → P y → (xs ss : List Message) → length xs ≤ emptySlots ss → List·Memᴰ y xs → Somewhere P (placed xs ss)
+  placed-has y f p [] ss h m = absurd (List·Memᴰ·not-nil m)
+  placed-has y f p (x ∷ xs) ss h m =
+      ⊎-elim (λ (e : y ≡ x). placed-keeps xs (put-here x ss (rw e at f) (subst P e p) (omega arith)))
+      (λ k. placed-has y f p xs (putFirst isEmpty x ss) (omega (arith, put-count x ss)) k) (List·Memᴰ·cases-cons m)

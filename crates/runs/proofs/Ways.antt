@@ -8,7 +8,7 @@ use native.Mathlib.Omega.{arith}
 use lib.Dec.{T, eqb, ltb, eqb→eq, nltb→le, T-not}
 use lib.ListN.{length, drop}
 use Rattle.sets.specs.Plain.{if_then_else_}
-use Rattle.sets.proofs.Tests.{neither, if-ind}
+use Rattle.sets.proofs.Tests.{T-false, neither, if-ind}
 use Rattle.tables.specs.declared.Layout.{Layout}
 use Rattle.tables.specs.declared.Message.{Message}
 use Rattle.tables.specs.declared.Party.{Party}
@@ -133,6 +133,20 @@ allowed c M z =
     past : (n : ℕ) (b : Bool) {m : ℕ} → (n ≡ 0 → ⊥) → (if b then n else m) ≡ 0 → T (not b) × (m ≡ 0)
     past n true h e = absurd (h e)
     past n false h e = (tt, e)
+
+-- and back
+pub allows : (c : Call) (M : Machine) → Allowed c M → codeOf c M ≡ 0
+unfolding refusal
+allows c M a =
+    rw (
+      T-false (badArgument c M) (a .argument),
+      T-false (downParty c M) (a .up),
+      T-false (starts c M isBusy) (a .idle),
+      T-false (starts c M isWorn) (a .unworn),
+      T-false (delivers c M isVoid) (a .filled),
+      T-false (delivers c M isOverfull) (a .free),
+      T-false (noSlot M (effectOf c M)) (a .slots),
+    )
 
 -- ---- a call
 
