@@ -103,25 +103,26 @@ module _ (lay : Layout) (few : lay .directories ≤ 16) (m : List ℕ) (k : Conf
   abbrev pub reached : List ℕ
   reached = bufferAfter lay (call lay (setUp k p) m .buffer) before
 
+  abbrev pub M : Machine
+  M = machineOf lay reached
+
   -- a read takes 2rq + 2wq + 2 deliveries
-  pub read-takes : T (allOf (askedToRead (machineOf lay reached) c)) → Takes lay (readPrice (machineOf lay reached .conf)) (startRead c) 1 c reached
+  pub read-takes : T (allOf (askedToRead M c)) → Takes lay (readPrice (M .conf)) (startRead c) 1 c reached
   read-takes = read-held lay few c (held-reached lay m k p accepted before)
 
   -- a write of a page of 16 words takes 2rq + 2wq + 2f + 2
-  pub write-takes : (page : Page) → Paged page → T (allOf (askedToWrite (machineOf lay reached) c))
-      → Takes lay (writePrice (machineOf lay reached .conf)) (startWrite c page) 2 c reached
+  pub write-takes : (page : Page) → Paged page → T (allOf (askedToWrite M c)) → Takes lay (writePrice (M .conf)) (startWrite c page) 2 c reached
   write-takes = write-held lay few c (held-reached lay m k p accepted before)
 
   -- and no fewer, whoever is up and whatever room there is: asked is only that the client is idle
-  module _ (party : T (isParty (machineOf lay reached .conf) AClient c)) (idle : T (not (isBusy (machineOf lay reached) c))) (qs : List Call) (n : T (noSetUp qs)) where
-    least-of : (code : ℕ) → Answers lay code c reached qs → priceOf (machineOf lay reached .conf) code ≤ deliveries qs
+  module _ (party : T (isParty (M .conf) AClient c)) (idle : T (not (isBusy M c))) (qs : List Call) (n : T (noSetUp qs)) where
+    least-of : (code : ℕ) → Answers lay code c reached qs → priceOf (M .conf) code ≤ deliveries qs
     least-of code =
-        let M : Machine = machineOf lay reached in
         no-fewer lay few code c (held-reached lay m k p accepted before) (among (M .conf .clients) c party)
         (eqb→eq (clientAt M c .phase) 0 (not-not (eqb (clientAt M c .phase) 0) idle)) qs n
 
-    pub no-fewer-to-read : Answers lay 1 c reached qs → readPrice (machineOf lay reached .conf) ≤ deliveries qs
+    pub no-fewer-to-read : Answers lay 1 c reached qs → readPrice (M .conf) ≤ deliveries qs
     no-fewer-to-read = least-of 1
 
-    pub no-fewer-to-write : Answers lay 2 c reached qs → writePrice (machineOf lay reached .conf) ≤ deliveries qs
+    pub no-fewer-to-write : Answers lay 2 c reached qs → writePrice (M .conf) ≤ deliveries qs
     no-fewer-to-write = least-of 2
