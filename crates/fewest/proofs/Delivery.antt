@@ -1,6 +1,6 @@
 -- A delivery that is accepted: what it leads to, which messages wait afterwards, and how many slots are empty.
-use mathlib.Core.Path.{_≡_, refl, sym, ap, subst, _∙_}
-use mathlib.Core.Bool.{true, false, not}
+use mathlib.Core.Path.{_≡_, sym, ap, subst, _∙_}
+use mathlib.Core.Bool.{false, not}
 use mathlib.Core.List.{List, Memᴰ·map}
 use Prim.Native.Nat.{ℕ, suc, _+_, _≤_}
 use native.Mathlib.Omega.{arith}
@@ -14,7 +14,7 @@ use Rattle.tables.specs.Tables.{Page, Machine, noPage, noMessage, isEmpty, slot
 use Rattle.mail.specs.declared.Post.{Post}
 use Rattle.mail.specs.Posts.{toReceiver, messagesOf}
 use Rattle.mail.specs.Slots.{placed, emptySlots}
-use Rattle.mail.proofs.Messages.{count-more}
+use Rattle.mail.proofs.Messages.{count-freed}
 use Rattle.rules.specs.declared.Answer.{Answer}
 use Rattle.machine.specs.Effects.{Change, applied}
 use Rattle.machine.specs.Calls.{deliver}
@@ -43,10 +43,6 @@ pub posted : {P : Message → Type 0} (y : Post) (ss : List Message) → length 
 unfolding messagesOf
 posted y ss h f r l g m p = placed-has (toReceiver (y .message) r) f p (messagesOf y) ss h (Memᴰ·map (toReceiver (y .message)) (in-members 16 (y .to) r l g m))
 
-blank : isEmpty noMessage ≡ true
-unfolding noMessage
-blank = refl
-
 -- the message s is delivered, with this effect
 pub record Taken (M : Machine) {P : Message → Type 0} (s : Somewhere P (M .slots)) (ch : Change) (y : Post) (a : Answer) (pg : Page) : Type 0 where
   pub good : Good M
@@ -59,7 +55,7 @@ module _ {M : Machine} {P : Message → Type 0} {s : Somewhere P (M .slots)} {ch
   after = applied (taken (suc (at s)) ch y a pg) M
 
   freed-more : emptySlots (set (M .slots) (at s) noMessage) ≡ emptySlots (M .slots) + 1
-  freed-more = count-more isEmpty noMessage noMessage (M .slots) (at s) (found s .inside) (found s .full) blank
+  freed-more = count-freed (M .slots) (at s) (found s .inside) (found s .full)
 
   accepts : codeOf (deliver (suc (at s)) noPage) M ≡ 0
   unfolding effectOf

@@ -1,19 +1,15 @@
--- Replies: which messages they are, that none has a number to come, and who posts them.
-use mathlib.Core.Path.{_≡_, refl, sym, subst}
-use mathlib.Core.Bool.{Bool}
-use mathlib.Core.Logic.{⊎-elim}
-use mathlib.Core.List.{List, [], _∷_}
+-- Replies: who awaits them, and who posts them.
+use mathlib.Core.Path.{_≡_, refl}
+use mathlib.Core.List.{List}
 use Prim.Native.Nat.{ℕ}
-use lib.Dec.{T, eqb, eqb→eq}
-use Rattle.sets.specs.Plain.{oneOf}
-use Rattle.sets.proofs.Tests.{or-elim, if-ind}
+use lib.Dec.{T, eqb}
+use Rattle.sets.proofs.Tests.{if-ind}
 use Rattle.tables.specs.declared.Conf.{Conf}
 use Rattle.tables.specs.declared.Client.{Client}
 use Rattle.tables.specs.declared.Directory.{Directory}
 use Rattle.tables.specs.declared.Entry.{Entry}
 use Rattle.tables.specs.declared.Message.{Message}
-use Rattle.tables.specs.Tables.{Machine, noMessage}
-use Rattle.tables.proofs.All.{All, none, cons}
+use Rattle.tables.specs.Tables.{noMessage}
 use Rattle.mail.specs.declared.Post.{Post}
 use Rattle.rules.specs.declared.Outcome.{Outcome}
 use Rattle.rules.specs.declared.Outcome.the-variants.{Waiting, Next, ReadEnded, WriteEnded, Spent, Stale}
@@ -21,32 +17,10 @@ use Rattle.rules.specs.Directory.{directoryPost}
 use Rattle.rules.specs.Replica.{replicaPost}
 use Rattle.rules.specs.Client.{awaited, request, secures, clientPost}
 use Rattle.history.proofs.Rows.{Sent}
-use Rattle.history.proofs.Invariant.{Past, Fact, MessageOk}
+use Rattle.history.proofs.Later.{isReply}
 use Rattle.history.proofs.Keeping.{unsent}
 
 -- ---- replies
-
-abbrev pub isReply : ℕ → Bool
-isReply k = oneOf k (5 ∷ 6 ∷ 7 ∷ 8 ∷ 12 ∷ 13 ∷ [])
-
-pub one-of-ind : (k : ℕ) (l : List ℕ) {P : ℕ → Type 0} → All P l → T (oneOf k l) → P k
-one-of-ind k [] none h = absurd h
-one-of-ind k (a ∷ []) {P} (cons p none) h = subst P (sym (eqb→eq k a h)) p
-one-of-ind k (a ∷ b ∷ l) {P} (cons p ps) h =
-    ⊎-elim (λ e. subst P (sym (eqb→eq k a e)) p) (λ r. one-of-ind k (b ∷ l) ps r) (or-elim (eqb k a) (oneOf k (b ∷ l)) h)
-
--- the number of a waiting reply is not to come
-pub reply-past : (M : Machine) (x : Message) → MessageOk M x → T (isReply (x .kind)) → Past M (x .receiver) (x .number)
-reply-past M x ok h = one-of-ind (x .kind) (5 ∷ 6 ∷ 7 ∷ 8 ∷ 12 ∷ 13 ∷ []) each h ok
-  where
-    at : (k : ℕ) → (Fact M x k → Past M (x .receiver) (x .number)) → Fact M x k → Past M (x .receiver) (x .number)
-    at k f = f
-
-    each : All (λ (k : ℕ). Fact M x k → Past M (x .receiver) (x .number)) (5 ∷ 6 ∷ 7 ∷ 8 ∷ 12 ∷ 13 ∷ [])
-    each =
-        cons (at 5 (λ f. f .0))
-        (cons (at 6 (λ f. f .past))
-        (cons (at 7 (λ f. f)) (cons (at 8 (λ f. f .past)) (cons (at 12 (λ f. f .0 .past)) (cons (at 13 (λ f. f .past)) none)))))
 
 pub awaited-reply : (p : ℕ) → (awaited p ≡ 0 → ⊥) → T (isReply (awaited p))
 unfolding awaited

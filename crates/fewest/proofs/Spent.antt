@@ -33,11 +33,12 @@ use Rattle.runs.proofs.Sound.{Sound}
 use Rattle.runs.proofs.Rows.{numbers-of}
 use Rattle.history.proofs.Rows.{OfClient, of-downed, each-client, Sent, all-slots}
 use Rattle.history.proofs.Invariant.{MessageOk, Invariant}
+use Rattle.history.proofs.Later.{reply-past}
 use Rattle.history.proofs.Keeping.{unsent}
 use Rattle.history.proofs.Acts.{Acts, Comes, reads, writes, drops, directs, stores, hears, gossips, tidies, crashes, reports, begun, answered}
 use Rattle.fewest.specs.Fewest.{isDeliver, leastToRead, leastToWrite, readPrice, writePrice}
 use Rattle.fewest.proofs.Quorums.{needed, enough-least}
-use Rattle.fewest.proofs.Replies.{reply-past, awaited-reply, Replies, NoReply, request-asks, client-asks, directory-own, replica-own}
+use Rattle.fewest.proofs.Replies.{awaited-reply, Replies, NoReply, request-asks, client-asks, directory-own, replica-own}
 
 -- ---- the cost
 

@@ -13,15 +13,35 @@ use Rattle.sets.proofs.TagOrder.{_≼_, ≼-refl, ≼-trans}
 use Rattle.tables.specs.declared.Client.{Client}
 use Rattle.tables.specs.declared.Message.{Message}
 use Rattle.tables.specs.Tables.{Replica, Machine, noClient, noDirectory, noReplica, clientAt, directoryAt, withSlots}
-use Rattle.tables.proofs.All.{all-map}
+use Rattle.tables.proofs.All.{All, none, cons, all-map}
 use Rattle.rules.proofs.Covers.{Covers}
 use Rattle.machine.specs.Effects.{Change, nothing, client, directory, replica, Effect, changed, applied}
 use Rattle.history.proofs.Rows.{row-ind}
 use Rattle.history.proofs.Invariant.{ifT, CoversAt, Told, Reached, Known, Stands, Past, While, Fact, MessageOk, Gathering, unheard, gathered, PhaseFact, ClientOk, ReplicaOk}
 
--- what holds at both numbers holds at a number that is one of them
-pub one-of : (p a b : ℕ) (P : ℕ → Type 0) → P a → P b → T (oneOf p (a ∷ b ∷ [])) → P p
-one-of p a b P f g h = ⊎-elim (λ u. subst P (sym (eqb→eq p a u)) f) (λ u. subst P (sym (eqb→eq p b u)) g) (or-elim (eqb p a) (eqb p b) h)
+-- what holds at each number of a list holds at a number that is one of them
+pub one-of : (P : ℕ → Type 0) (k : ℕ) (l : List ℕ) → All P l → T (oneOf k l) → P k
+one-of P k [] none h = absurd h
+one-of P k (a ∷ []) (cons p none) h = subst P (sym (eqb→eq k a h)) p
+one-of P k (a ∷ b ∷ l) (cons p ps) h =
+    ⊎-elim (λ e. subst P (sym (eqb→eq k a e)) p) (λ r. one-of P k (b ∷ l) ps r) (or-elim (eqb k a) (oneOf k (b ∷ l)) h)
+
+-- the replies to clients
+abbrev pub isReply : ℕ → Bool
+isReply k = oneOf k (5 ∷ 6 ∷ 7 ∷ 8 ∷ 12 ∷ 13 ∷ [])
+
+-- the number of a waiting reply is not to come
+pub reply-past : (M : Machine) (x : Message) → MessageOk M x → T (isReply (x .kind)) → Past M (x .receiver) (x .number)
+reply-past M x ok h = one-of (λ (k : ℕ). Fact M x k → Past M (x .receiver) (x .number)) (x .kind) (5 ∷ 6 ∷ 7 ∷ 8 ∷ 12 ∷ 13 ∷ []) each h ok
+  where
+    at : (k : ℕ) → (Fact M x k → Past M (x .receiver) (x .number)) → Fact M x k → Past M (x .receiver) (x .number)
+    at k f = f
+
+    each : All (λ (k : ℕ). Fact M x k → Past M (x .receiver) (x .number)) (5 ∷ 6 ∷ 7 ∷ 8 ∷ 12 ∷ 13 ∷ [])
+    each =
+        cons (at 5 (λ f. f .0))
+        (cons (at 6 (λ f. f .past))
+        (cons (at 7 (λ f. f)) (cons (at 8 (λ f. f .past)) (cons (at 12 (λ f. f .0 .past)) (cons (at 13 (λ f. f .past)) none)))))
 
 -- ---- what never falls
 

@@ -17,7 +17,7 @@ use Rattle.tables.specs.declared.Party.the-variants.{Nobody, AClient, ADirector
 use Rattle.tables.specs.Kinds.{carriesPage}
 use Rattle.tables.specs.Rows.{some?}
 use Rattle.tables.specs.Tables.{Page, Replica, Machine, noEntry, noReplica, noMessage, noClient, clientAt, directoryAt, replicaAt, slotAt, withSlots, isFree, isSecured}
-use Rattle.tables.proofs.All.{All, all-map, all-row, all-withRow, all-replicate}
+use Rattle.tables.proofs.All.{All, none, cons, all-map, all-row, all-withRow, all-replicate}
 use Rattle.mail.specs.declared.Post.{Post}
 use Rattle.rules.specs.declared.Outcome.{Outcome}
 use Rattle.rules.specs.declared.Outcome.the-variants.{Waiting, Next, ReadEnded, WriteEnded, Spent, Stale}
@@ -78,7 +78,7 @@ module _ (H : Tag → Page → Type 0) where
   heard-in w x g h =
       let k = heard-keeps w x in
       let q : T (oneOf (w .phase) (5 ∷ 6 ∷ [])) = subst (λ (p : ℕ). T (oneOf p (5 ∷ 6 ∷ []))) (k .phase) h in
-      let e : heard w x .tag ≡ w .tag = ap (λ (v : Client). v .tag) (heard-settled w x (w .phase) refl (one-of (w .phase) 5 6 (λ p. T (settled p)) tt tt q)) in
+      let e : heard w x .tag ≡ w .tag = ap (λ (v : Client). v .tag) (heard-settled w x (w .phase) refl (one-of (λ p. T (settled p)) (w .phase) (5 ∷ 6 ∷ []) (cons tt (cons tt none)) q)) in
       rw (e, k .page) (g q)
 
   -- ---- what is sent

@@ -13,6 +13,7 @@ use Rattle.sets.proofs.TagOrder.{_≼_, _≺_}
 use Rattle.tables.specs.declared.Client.{Client}
 use Rattle.tables.specs.declared.Message.{Message}
 use Rattle.tables.specs.Tables.{Page}
+use Rattle.tables.proofs.All.{none, cons}
 use Rattle.rules.specs.Client.{heard}
 use Rattle.rules.proofs.Heard.{heard-keeps}
 use Rattle.order.specs.Method.{Stand, idle, reads, asks, writes}
@@ -69,4 +70,4 @@ stand-heard w x =
     (λ _. if-same (eqb (w .phase) 4) (λ _. ap asks (k .page))
     (λ _. if-same (oneOf (w .phase) (5 ∷ 6 ∷ []))
     (λ b. ap₂ writes (k .page)
-    (ap (λ (y : Client). rankOf (y .tag)) (heard-settled w x (w .phase) refl (one-of (w .phase) 5 6 (λ p. T (settled p)) tt tt b)))) (λ _. refl)))
+    (ap (λ (y : Client). rankOf (y .tag)) (heard-settled w x (w .phase) refl (one-of (λ p. T (settled p)) (w .phase) (5 ∷ 6 ∷ []) (cons tt (cons tt none)) b)))) (λ _. refl)))

@@ -18,7 +18,7 @@ use Rattle.tables.specs.declared.Client.{Client}
 use Rattle.tables.specs.declared.Entry.{Entry}
 use Rattle.tables.specs.declared.Message.{Message}
 use Rattle.tables.specs.Tables.{Machine, noMessage, clientAt, directoryAt, replicaAt, slotAt}
-use Rattle.tables.proofs.All.{All, all-row, all-map}
+use Rattle.tables.proofs.All.{All, none, cons, all-row, all-map}
 use Rattle.mail.specs.declared.Post.{Post}
 use Rattle.rules.specs.declared.Outcome.{Outcome}
 use Rattle.rules.specs.declared.Outcome.the-variants.{Waiting, Next, ReadEnded, WriteEnded, Spent, Stale}
@@ -33,18 +33,18 @@ use Rattle.machine.specs.Effects.{Effect, applied}
 use Rattle.machine.specs.Calls.{Call}
 use Rattle.history.proofs.Rows.{Sent, all-slots}
 use Rattle.history.proofs.Acts.{Acts, reads, writes, drops, directs, stores, hears, gossips, tidies, crashes, reports}
-use Rattle.history.proofs.Invariant.{ifT, Reached, Known, Past, Fact, MessageOk, Invariant}
-use Rattle.history.proofs.Later.{one-of, settled, Later, ifT-with, ifT-map, reached-later}
+use Rattle.history.proofs.Invariant.{ifT, Reached, Known, MessageOk, Invariant}
+use Rattle.history.proofs.Later.{one-of, isReply, reply-past, settled, Later, ifT-with, ifT-map, reached-later}
 use Rattle.history.proofs.Keeping.{unsent}
 use Rattle.history.proofs.Clients.{heard-settled}
 
 -- a directory's reply with a tag: rread-ok, wread-ok
-abbrev isReply : ℕ → Bool
-isReply k = oneOf k (5 ∷ 7 ∷ [])
+abbrev isTagReply : ℕ → Bool
+isTagReply k = oneOf k (5 ∷ 7 ∷ [])
 
 -- what a reply to client c under number n, from one of the set q, must carry
 abbrev Counts : ℕ → ℕ → ℕ → Tag → Message → Type 0
-Counts c n q F x = T (isReply (x .kind)) → x .receiver ≡ c → x .number ≡ n → x .sender ∈ q → F ≼ x .tag
+Counts c n q F x = T (isTagReply (x .kind)) → x .receiver ≡ c → x .number ≡ n → x .sender ∈ q → F ≼ x .tag
 
 -- phases 1 and 4: a write quorum has F, and each of its directories that answered, or whose reply waits, tells of F or more
 pub record Asking (M : Machine) (c n a : ℕ) (t F : Tag) : Type 0 where
@@ -146,11 +146,9 @@ module _ (M : Machine) {a : Call} {e : Effect} (k : Acts M a e) (l : Later M (ap
   track-later w = ifT-map (oneOf (w .phase) (1 ∷ 4 ∷ [])) (λ h. asking-later h) (λ h. h)
 
   -- no reply to a coming number waits
-  late : (x : Message) → MessageOk M x → T (isReply (x .kind)) → x .receiver ≡ c → x .number ≡ clientAt M c .number + 1 → ⊥
+  late : (x : Message) → MessageOk M x → T (isTagReply (x .kind)) → x .receiver ≡ c → x .number ≡ clientAt M c .number + 1 → ⊥
   late x g h r n =
-      let p : Past M (x .receiver) (x .number) =
-      ⊎-elim (λ u. subst (Fact M x) (eqb→eq (x .kind) 5 u) g .0) (λ u. subst (Fact M x) (eqb→eq (x .kind) 7 u) g)
-      (or-elim (eqb (x .kind) 5) (eqb (x .kind) 7) h) in
+      let p = reply-past M x g (one-of (λ k. T (isReply k)) (x .kind) (5 ∷ 7 ∷ []) (cons tt (cons tt none)) h) in
       omega (arith, subst (λ (d : ℕ). x .number ≤ clientAt M d .number) r p)
 
   -- an operation begins
@@ -185,7 +183,7 @@ module _ (M : Machine) (s : ℕ) (F : Tag) (k : Timely (clientAt M (slotAt M s .
   unfolding awaited noMessage
   hear-asking b h =
       let o = heard-over w x (⊎-elim (λ u. inl (eqb→eq (w .phase) 1 u)) (λ u. inr (eqb→eq (w .phase) 4 u)) (or-elim (eqb (w .phase) 1) (eqb (w .phase) 4) b)) in
-      let reply : T (isReply (x .kind)) = rw (k .kind) (one-of (w .phase) 1 4 (λ p. T (isReply (awaited p))) tt tt b) in
+      let reply : T (isTagReply (x .kind)) = rw (k .kind) (one-of (λ p. T (isTagReply (awaited p))) (w .phase) (1 ∷ 4 ∷ []) (cons tt (cons tt none)) b) in
       record {
         quorum = h .quorum;
         inside = h .inside;
@@ -202,8 +200,8 @@ module _ (M : Machine) (s : ℕ) (F : Tag) (k : Timely (clientAt M (slotAt M s .
   hear-row t =
       subst (TrackAt M c F (y .number) (y .answered) (y .tag)) (sym (heard-keeps w x .phase))
       (ifT-with (oneOf (w .phase) (1 ∷ 4 ∷ [])) hear-asking
-      (λ _. ifT-with (oneOf (w .phase) (2 ∷ 3 ∷ [])) (λ b h. subst (λ (u : Tag). F ≼ u) (sym (stays (one-of (w .phase) 2 3 (λ p. T (settled p)) tt tt b))) h)
-      (λ _. ifT-with (oneOf (w .phase) (5 ∷ 6 ∷ [])) (λ b h. subst (λ (u : Tag). F ≺ u) (sym (stays (one-of (w .phase) 5 6 (λ p. T (settled p)) tt tt b))) h)
+      (λ _. ifT-with (oneOf (w .phase) (2 ∷ 3 ∷ [])) (λ b h. subst (λ (u : Tag). F ≼ u) (sym (stays (one-of (λ p. T (settled p)) (w .phase) (2 ∷ 3 ∷ []) (cons tt (cons tt none)) b))) h)
+      (λ _. ifT-with (oneOf (w .phase) (5 ∷ 6 ∷ [])) (λ b h. subst (λ (u : Tag). F ≺ u) (sym (stays (one-of (λ p. T (settled p)) (w .phase) (5 ∷ 6 ∷ []) (cons tt (cons tt none)) b))) h)
       (λ _ h. h))) t)
     where
       stays : T (settled (w .phase)) → y .tag ≡ w .tag

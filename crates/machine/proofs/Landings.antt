@@ -29,7 +29,7 @@ use Rattle.tables.proofs.Holds.{Holds, holds-machine, holds-rest}
 use Rattle.mail.specs.declared.Post.{Post}
 use Rattle.mail.specs.Posts.{noPost, messagesOf}
 use Rattle.mail.specs.Slots.{placed, emptySlots}
-use Rattle.mail.proofs.Messages.{count-more, length-messages, no-messages}
+use Rattle.mail.proofs.Messages.{count-freed, length-messages, no-messages}
 use Rattle.inspect.specs.Good.{between}
 use Rattle.rules.specs.declared.Answer.{Answer}
 use Rattle.rules.specs.Answers.{coded}
@@ -62,10 +62,6 @@ module _ (a b c d : Bool) where
   tested-24 : a ≡ false → b ≡ false → c ≡ false → tested a b c d ≡ (if d then 24 else 0)
   tested-24 p q r = rw (p, q, r)
 
-blank : isEmpty noMessage ≡ true
-unfolding noMessage
-blank = refl
-
 -- only 10 and 15 find a replica full
 never-full : (M : Machine) (x : Message) → (receiverOf (x .kind) ≡ AReplica → ⊥) → isOverfull M x ≡ false
 unfolding isFull receiverOf
@@ -90,7 +86,7 @@ module _ {lay : Layout} {who : Party} {m : List ℕ} {s : ℕ} {x : Message} (g 
 
   -- one slot more is empty once the message is taken out
   one-freed : emptySlots (set (machineOf lay m .slots) s noMessage) ≡ emptySlots (machineOf lay m .slots) + 1
-  one-freed = count-more isEmpty noMessage noMessage (machineOf lay m .slots) s (rw (its-slots lay m) (g .slot)) not-empty blank
+  one-freed = count-freed (machineOf lay m .slots) s (rw (its-slots lay m) (g .slot)) not-empty
 
   -- the party of the receiver's number
   pub own : suc (x .receiver - 1) ≡ x .receiver

@@ -19,7 +19,7 @@ use Rattle.tables.proofs.Lists.{putFirst-set, all-putFirst}
 use Rattle.tables.proofs.Whole.{Paged, blank-message}
 use Rattle.mail.specs.declared.Post.{Post}
 use Rattle.mail.specs.Posts.{toReceiver, noPost, messagesOf}
-use Rattle.mail.specs.Slots.{placed, freed}
+use Rattle.mail.specs.Slots.{placed, freed, emptySlots}
 
 -- ---- counts
 
@@ -32,7 +32,7 @@ count-le p (x ∷ xs) = go (p x) (count-le p xs)
     go false h = omega arith
 
 -- a row that fails the test is replaced by one that passes it
-pub count-more : {A : Type 0} (p : A → Bool) (d x : A) (xs : List A) (i : ℕ) → i < length xs → p (getD xs i d) ≡ false → p x ≡ true
+count-more : {A : Type 0} (p : A → Bool) (d x : A) (xs : List A) (i : ℕ) → i < length xs → p (getD xs i d) ≡ false → p x ≡ true
     → count p (set xs i x) ≡ count p xs + 1
 count-more p d x [] i h f t = absurd (not-suc-le-zero h)
 count-more p d x (y ∷ xs) zero h f t = rw (f, t) (omega arith)
@@ -42,6 +42,11 @@ count-more p d x (y ∷ xs) (suc i) h f t = go (p y) (count-more p d x xs i (le-
         → (if b then suc (count p (set xs i x)) else count p (set xs i x)) ≡ (if b then suc (count p xs) else count p xs) + 1
     go true e = omega arith
     go false e = e
+
+-- one slot more is empty once a message is taken out
+pub count-freed : (ss : List Message) (i : ℕ) → i < length ss → isEmpty (getD ss i noMessage) ≡ false → emptySlots (set ss i noMessage) ≡ emptySlots ss + 1
+unfolding noMessage
+count-freed ss i h f = count-more isEmpty noMessage noMessage ss i h f refl
 
 -- one message for each in the set
 pub length-messages : (y : Post) → y .to < 2 ^ 16 → length (messagesOf y) ≡ size (y .to)
