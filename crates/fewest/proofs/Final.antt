@@ -1,13 +1,12 @@
 -- HOW FEW DELIVERIES WILL DO, over a lent buffer: any buffer, an accepted set-up, any calls after it, and then what is asked.
-use mathlib.Core.Path.{_≡_, refl, ap, subst, _∙_}
-use mathlib.Core.Bool.{Bool, true, false, not}
+use mathlib.Core.Path.{_≡_, refl, ap, _∙_}
+use mathlib.Core.Bool.{not}
 use mathlib.Core.List.{List, [], _∷_}
 use mathlib.Core.Logic.{inl, inr}
 use Prim.Native.Nat.{ℕ, suc, _+_, _≤_}
 use borrow.Author.Tests.{eq-eqb}
 use lib.Dec.{T, eqb, eqb→eq}
 use lib.ListN.{length}
-use Rattle.sets.specs.Plain.{if_then_else_}
 use Rattle.sets.proofs.Tests.{not-not}
 use Rattle.tables.specs.declared.Layout.{Layout}
 use Rattle.tables.specs.declared.Conf.{Conf}
@@ -20,36 +19,21 @@ use Rattle.rules.specs.declared.Answer.{Answer}
 use Rattle.machine.specs.Effects.{client}
 use Rattle.machine.specs.Calls.{Call, setUp, startRead, startWrite, deliver}
 use Rattle.machine.specs.Refusals.{isBusy}
-use Rattle.machine.specs.Steps.{Result, pageIn, refused, step}
+use Rattle.machine.specs.Steps.{Result, step}
 use Rattle.machine.specs.Buffers.{wrongPage, call}
-use Rattle.runs.proofs.Runs.{sizedStep}
 use Rattle.history.proofs.Shape.{among}
 use Rattle.history.proofs.Walk.{Good}
 use Rattle.fewest.specs.Fewest.{deliveries, noSetUp, readPrice, writePrice, bufferAfter, Answers, delivering, Takes, askedToRead, askedToWrite, allOf}
 use Rattle.fewest.proofs.Ready.{Ready, ready, ready-to-write}
 use Rattle.fewest.proofs.Spent.{priceOf}
-use Rattle.fewest.proofs.Held.{Held, held-answer, held-call, held-good, held-few, held-reached}
+use Rattle.fewest.proofs.Held.{Held, held-good, held-few, answer-is, held-step, held-reached}
 use Rattle.fewest.proofs.Least.{no-fewer}
 use Rattle.fewest.proofs.Delivery.{Ends, last, more, paged}
 use Rattle.fewest.proofs.Start.{read-begins, read-ends, write-begins, write-ends}
 
 -- ---- a sequence of deliveries on a buffer
 
-sized-is : (q : Call) (M : Machine) → T (not (wrongPage q)) → sizedStep q M ≡ step q M
-sized-is q M h = go (wrongPage q) h
-  where
-    go : (b : Bool) → T (not b) → (if b then refused 16 (pageIn q) M else step q M) ≡ step q M
-    go true h = absurd h
-    go false h = refl
-
 module _ (lay : Layout) (code c : ℕ) where
-  -- a call with a page of 16 words is the step
-  answer-is : (q : Call) {M : Machine} {m : List ℕ} → Held lay M m → T (not (wrongPage q)) → call lay q m .answer ≡ step q M .answer
-  answer-is q {M} H h = held-answer lay q H ∙ ap (λ (r : Result). r .answer) (sized-is q M h)
-
-  held-step : (q : Call) {M : Machine} {m : List ℕ} → Held lay M m → T (not (wrongPage q)) → Held lay (step q M .machine) (call lay q m .buffer)
-  held-step q {M} {m} H h = subst (λ (r : Result). Held lay (r .machine) (call lay q m .buffer)) (sized-is q M h) (held-call lay q H)
-
   slots-of : {n : ℕ} {M : Machine} → Ends code c n M → List ℕ
   slots-of (last s _ _) = s ∷ []
   slots-of (more s e) = s ∷ slots-of e
@@ -62,9 +46,9 @@ module _ (lay : Layout) (code c : ℕ) where
   ends-so : {n : ℕ} {M : Machine} (e : Ends code c n M) {m : List ℕ} → Held lay M m → Answers lay code c m (delivering (slots-of e))
   unfolding slots-of
   ends-so (last s p q) H =
-      let a = answer-is (deliver s noPage) H (paged s) in
+      let a = answer-is lay (deliver s noPage) H (paged s) in
       inl (ap (λ (x : Answer). x .code) a ∙ p, ap (λ (x : Answer). x .client) a ∙ q)
-  ends-so (more s e) H = inr (ends-so e (held-step (deliver s noPage) H (paged s)))
+  ends-so (more s e) H = inr (ends-so e (held-step lay (deliver s noPage) H (paged s)))
 
 -- ---- THE THEOREMS
 
@@ -79,10 +63,10 @@ module _ (lay : Layout) (few : lay .directories ≤ 16) (c : ℕ) {M : Machine} 
       → Takes lay (priceOf (M .conf) code) q code c m
   takes code q R w a e =
       record {
-        starts = ap (λ (x : Answer). x .code) (answer-is lay code c q H w) ∙ a;
+        starts = ap (λ (x : Answer). x .code) (answer-is lay q H w) ∙ a;
         slots = slots-of lay code c e;
         many = many-slots lay code c e;
-        ends = ends-so lay code c e (held-step lay code c q H w);
+        ends = ends-so lay code c e (held-step lay q H w);
         least = no-fewer lay few code c H (record { low = R .low; high = R .high }) (R .idle);
       }
 

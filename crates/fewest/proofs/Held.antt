@@ -1,12 +1,13 @@
 -- A buffer reached from an accepted set-up holds the words of a machine with history's invariant, and every call keeps it so.
 use mathlib.Core.Path.{_≡_, refl, sym, ap, subst, _∙_}
-use mathlib.Core.Bool.{not}
+use mathlib.Core.Bool.{Bool, true, false, not}
 use mathlib.Core.List.{List, [], _∷_}
 use Prim.Native.Nat.{ℕ, _≤_}
 use native.Mathlib.Omega.{arith}
-use lib.Dec.{T, eqb, T-not, eqb→eq}
+use lib.Dec.{T, T-not}
 use lib.ListN.{length, drop}
-use Rattle.sets.proofs.Tests.{T-true, not-not, if-ind}
+use Rattle.sets.specs.Plain.{if_then_else_}
+use Rattle.sets.proofs.Tests.{if-ind}
 use Rattle.tables.specs.declared.Layout.{Layout}
 use Rattle.tables.specs.declared.Conf.{Conf}
 use Rattle.tables.specs.Tables.{Page, Machine}
@@ -15,29 +16,25 @@ use Rattle.tables.specs.Layouts.{extent}
 use Rattle.tables.specs.Machines.{machineOf}
 use Rattle.tables.proofs.Read.{its-room}
 use Rattle.tables.proofs.Whole.{Room}
-use Rattle.tables.proofs.Round.{machine-back}
-use Rattle.inspect.specs.Good.{goodNumbers}
+use Rattle.tables.proofs.Round.{words-back, machine-back}
 use Rattle.machine.specs.Effects.{Effect, applied}
 use Rattle.machine.specs.Calls.{Call, setUp, startRead, startWrite, deliver, gossip, tidy, crash, report}
-use Rattle.machine.specs.Steps.{Result, newMachine, effectOf, accepted, step}
+use Rattle.machine.specs.Steps.{Result, pageIn, refused, effectOf, accepted, step}
 use Rattle.machine.specs.Buffers.{wrongPage, isSetUp, Outcomes, call}
-use Rattle.runs.proofs.Ways.{codeOf, StepWay, refuses, accepts, step-way, allowed, CallWay, sized, bad, steps, call-way, is-paged}
+use Rattle.runs.proofs.Ways.{codeOf, StepWay, refuses, accepts, step-way, allowed, CallWay, sized, bad, steps, call-way, is-long}
 use Rattle.runs.proofs.Sound.{Sound}
-use Rattle.runs.proofs.New.{new-room}
 use Rattle.runs.proofs.Reached.{step-sound}
 use Rattle.runs.proofs.Rows.{numbers-of}
-use Rattle.runs.proofs.Runs.{sizedStep, sized-room, call-is}
+use Rattle.runs.proofs.Runs.{sizedStep, sized-room, call-is, later-kept}
 use Rattle.history.proofs.Invariant.{Invariant}
 use Rattle.history.proofs.Acts.{Acts, acts}
 use Rattle.history.proofs.Kept.{invariant-acts}
 use Rattle.history.proofs.Walk.{Good}
-use Rattle.history.proofs.Fresh.{fresh}
+use Rattle.history.proofs.Fresh.{fresh-by}
+use Rattle.history.proofs.Final.{begins}
 use Rattle.fewest.specs.Fewest.{bufferAfter}
 
 -- ---- steps
-
-new-good : (n : ℕ) (k : Conf) (p : Page) → T (not (wrongPage (setUp k p))) → T (not (not (goodNumbers n k))) → Good (newMachine n k p)
-new-good n k p w h = fresh n k p (T-true (goodNumbers n k) (not-not (goodNumbers n k) h)) (eqb→eq (length p) 16 (not-not (eqb (length p) 16) w)) .good
 
 -- set-up makes the machine anew, every other call applies its effect
 data Kind : Call → Type 0 where
@@ -69,12 +66,20 @@ pub step-good : (q : Call) (M : Machine) → Good M → T (not (wrongPage q)) �
 step-good q M G w = record { sound = step-sound q M (G .sound) w; invariant = go (step-way q M) }
   where
     by : {q : Call} → Kind q → T (not (wrongPage q)) → codeOf q M ≡ 0 → Invariant (accepted q M (effectOf q M))
-    by (renews k page) w h = new-good (length (M .directories)) k page w (allowed (setUp k page) M h .argument) .invariant
+    by (renews k page) w h = fresh-by (length (M .directories)) k page (allowed (setUp k page) M h .argument) w .good .invariant
     by (keeps {q} n f) w h = subst Invariant (sym (f M (effectOf q M))) (invariant-acts M (G .sound) (G .invariant) (call-acts q M (G .sound) n h))
 
     go : {r : Result} → StepWay q M r → Invariant (r .machine)
     go (refuses _) = G .invariant
     go (accepts h) = by (kind q) w h
+
+-- with a page of 16 words
+sized-is : (q : Call) (M : Machine) → T (not (wrongPage q)) → sizedStep q M ≡ step q M
+sized-is q M h = go (wrongPage q) h
+  where
+    go : (b : Bool) → T (not b) → (if b then refused 16 (pageIn q) M else step q M) ≡ step q M
+    go true h = absurd h
+    go false h = refl
 
 -- ---- buffers
 
@@ -91,7 +96,14 @@ module _ (lay : Layout) where
   pub held-answer : (q : Call) {M : Machine} {m : List ℕ} → Held M m → call lay q m .answer ≡ sizedStep q M .answer
   held-answer q (held G r t) = ap (λ (o : Outcomes). o .answer) (call-is q r (G .sound) t)
 
-  pub held-machine : {M : Machine} {m : List ℕ} → Held M m → machineOf lay m ≡ M
+  -- a call with a page of 16 words is the step
+  pub answer-is : (q : Call) {M : Machine} {m : List ℕ} → Held M m → T (not (wrongPage q)) → call lay q m .answer ≡ step q M .answer
+  answer-is q {M} H h = held-answer q H ∙ ap (λ (r : Result). r .answer) (sized-is q M h)
+
+  pub held-step : (q : Call) {M : Machine} {m : List ℕ} → Held M m → T (not (wrongPage q)) → Held (step q M .machine) (call lay q m .buffer)
+  held-step q {M} {m} H h = subst (λ (r : Result). Held (r .machine) (call lay q m .buffer)) (sized-is q M h) (held-call q H)
+
+  held-machine : {M : Machine} {m : List ℕ} → Held M m → machineOf lay m ≡ M
   held-machine (held {M} G r t) = machine-back lay M t (G .sound .whole) r
 
   pub held-good : {M : Machine} {m : List ℕ} → Held M m → Good M
@@ -108,20 +120,15 @@ module _ (lay : Layout) where
 
   -- an accepted set-up leaves such a buffer
   held-new : (m : List ℕ) (k : Conf) (p : Page) → call lay (setUp k p) m .answer .code ≡ 0 → Holds (call lay (setUp k p) m .buffer)
-  held-new m k p = go (call-way lay (setUp k p) m)
+  held-new m k p e =
+      let b : List ℕ = call lay (setUp k p) m .buffer in
+      subst (Held (machineOf lay b)) (words-back lay b (rw (later-kept lay (setUp k p) m .long) (long (call-way lay (setUp k p) m) e)))
+      (held (begins lay m k p e .good) (its-room lay b) (drop (extent lay) b))
     where
-      rows : ℕ
-      rows = length (machineOf lay m .directories)
-
-      stepped : T (not (wrongPage (setUp k p))) → {r : Result} → StepWay (setUp k p) (machineOf lay m) r → r .answer .code ≡ 0 → Holds (words (r .machine) (drop (extent lay) m))
-      stepped w (refuses h) e = absurd (omega arith)
-      stepped w (accepts h) e =
-          its-own (held (new-good rows k p w (allowed (setUp k p) (machineOf lay m) h .argument)) (new-room rows k p ∙ its-room lay m) (drop (extent lay) m))
-
-      go : {o : Outcomes} → CallWay lay (setUp k p) m o → o .answer .code ≡ 0 → Holds (o .buffer)
-      go (sized _) e = absurd (omega arith)
-      go (bad _ b) e = absurd b
-      go (steps w _) e = stepped (is-paged lay (setUp k p) m w) (step-way (setUp k p) (machineOf lay m)) e
+      long : {o : Outcomes} → CallWay lay (setUp k p) m o → o .answer .code ≡ 0 → extent lay ≤ length m
+      long (sized _) e = absurd (omega arith)
+      long (bad _ b) e = absurd b
+      long (steps w _) e = is-long lay (setUp k p) m w
 
   held-after : (qs : List Call) {m : List ℕ} → Holds m → Holds (bufferAfter lay m qs)
   held-after [] h = h

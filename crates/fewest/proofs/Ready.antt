@@ -42,7 +42,7 @@ pub record ReadyToWrite (M : Machine) (c : ℕ) : Type 0 where
   pub below : (d : ℕ) → 1 ≤ d → d ≤ M .conf .directories → T (not (isDown M ADirectory d)) → directoryAt M d .tag .number < M .conf .top
 
 -- a down word is 0 or 1
-pub is-up : (n : ℕ) → n ≤ 1 → T (not (eqb n 1)) → n ≡ 0
+is-up : (n : ℕ) → n ≤ 1 → T (not (eqb n 1)) → n ≡ 0
 is-up zero h k = refl
 is-up (suc zero) h k = absurd k
 is-up (suc (suc n)) h k = absurd (omega arith)

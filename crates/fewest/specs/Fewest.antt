@@ -111,7 +111,7 @@ Answers lay code c m (q ∷ qs) = ((call lay q m .answer .code ≡ code) × (cal
 abbrev pub delivering : List ℕ → List Call
 delivering slots = map (λ s. deliver s noPage) slots
 
--- n of them, from the buffer m: the start is accepted; after it the messages of some slots, n of them, bring client c the answer with this code;
+-- by n, from the buffer m: the start is accepted; after it the messages of some slots, n of them, bring client c the answer with this code;
 -- and every sequence of calls without set-up that brings it has n deliver calls or more, wherever in it the operation starts
 pub record Takes (lay : Layout) (n : ℕ) (start : Call) (code c : ℕ) (m : List ℕ) : Type 0 where
   pub starts : call lay start m .answer .code ≡ 0

@@ -5,9 +5,8 @@ use mathlib.Core.Logic.{_⊎_, inl, inr}
 use mathlib.Core.List.{List, _∷_, _++_}
 use Prim.Native.Nat.{ℕ}
 use native.Mathlib.Omega.{arith}
-use lib.Dec.{T, eqb, eqb→eq}
+use lib.Dec.{T}
 use lib.ListN.{length, drop}
-use Rattle.sets.proofs.Tests.{T-true, not-not}
 use Rattle.tables.specs.declared.Layout.{Layout}
 use Rattle.tables.specs.declared.Conf.{Conf}
 use Rattle.tables.specs.Tables.{Page, Machine}
@@ -22,7 +21,7 @@ use Rattle.machine.specs.Calls.{Call, setUp}
 use Rattle.machine.specs.Steps.{Result, newMachine, step}
 use Rattle.machine.specs.Buffers.{wrongPage, Outcomes, call}
 use Rattle.runs.proofs.Ways.{StepWay, refuses, accepts, step-way, allowed, CallWay, sized, bad, steps, call-way, is-paged}
-use Rattle.runs.proofs.New.{new-room, new-sound}
+use Rattle.runs.proofs.New.{new-room}
 use Rattle.runs.proofs.Reached.{step-sound, step-room}
 use Rattle.order.specs.Run.{_∈_, Event, nothing, reading, Op, ops, Proper, Finished, EndedBefore, last-page, OneLine, events, AllMeant}
 use Rattle.order.specs.Method.{Fresh, SeenAs}
@@ -31,7 +30,7 @@ use Rattle.order.proofs.Hours.{hours}
 use Rattle.history.specs.Show.{eventOf, Renews, onBuffer}
 use Rattle.history.proofs.Ways.{refused-shows}
 use Rattle.history.proofs.Walk.{Good, layered, onMachine, keeps}
-use Rattle.history.proofs.Fresh.{fresh}
+use Rattle.history.proofs.Fresh.{fresh, fresh-by}
 
 -- ---- over steps
 
@@ -67,7 +66,7 @@ module _ (lay : Layout) where
           )
 
   -- an accepted set-up leaves a new machine
-  begins : (m : List ℕ) (k : Conf) (p : Page) → call lay (setUp k p) m .answer .code ≡ 0 → Fresh layered p (machineOf lay (call lay (setUp k p) m .buffer))
+  pub begins : (m : List ℕ) (k : Conf) (p : Page) → call lay (setUp k p) m .answer .code ≡ 0 → Fresh layered p (machineOf lay (call lay (setUp k p) m .buffer))
   begins m k p = go (call-way lay (setUp k p) m)
     where
       rows : ℕ
@@ -77,11 +76,9 @@ module _ (lay : Layout) where
           → Fresh layered p (machineOf lay (words (r .machine) (drop (extent lay) m)))
       stepped w (refuses h) e = absurd (omega arith)
       stepped w (accepts h) e =
-          let g : goodNumbers rows k ≡ true = T-true (goodNumbers rows k) (not-not (goodNumbers rows k) (allowed (setUp k p) (machineOf lay m) h .argument)) in
-          let q : Paged p = eqb→eq (length p) 16 (not-not (eqb (length p) 16) w) in
+          let f = fresh-by rows k p (allowed (setUp k p) (machineOf lay m) h .argument) w in
           subst (Fresh layered p)
-          (sym (machine-back lay (newMachine rows k p) (drop (extent lay) m) (new-sound k p q rows g .whole) (new-room rows k p ∙ its-room lay m)))
-          (fresh rows k p g q)
+          (sym (machine-back lay (newMachine rows k p) (drop (extent lay) m) (f .good .sound .whole) (new-room rows k p ∙ its-room lay m))) f
 
       go : {o : Outcomes} → CallWay lay (setUp k p) m o → o .answer .code ≡ 0 → Fresh layered p (machineOf lay (o .buffer))
       go (sized _) e = absurd (omega arith)
