@@ -16,13 +16,13 @@ use Rattle.mail.specs.Posts.{toReceiver, messagesOf}
 use Rattle.mail.specs.Slots.{placed, emptySlots}
 use Rattle.mail.proofs.Messages.{count-freed}
 use Rattle.rules.specs.declared.Answer.{Answer}
-use Rattle.machine.specs.Effects.{Change, applied}
+use Rattle.machine.specs.Effects.{Change, changed, applied}
 use Rattle.machine.specs.Calls.{deliver}
 use Rattle.machine.specs.Deliver.{taken, deliverEffect}
 use Rattle.machine.specs.Refusals.{isOverfull}
-use Rattle.machine.specs.Steps.{Result, effectOf, step}
+use Rattle.machine.specs.Steps.{Result, effectOf, step, codeOf}
 use Rattle.machine.specs.Buffers.{wrongPage}
-use Rattle.runs.proofs.Ways.{codeOf, allows}
+use Rattle.runs.proofs.Ways.{allows}
 use Rattle.history.proofs.Walk.{Good}
 use Rattle.fewest.proofs.Held.{step-good}
 use Rattle.fewest.proofs.Waiting.{Somewhere, at, found, placed-count, placed-keeps, freed-keeps, placed-has}
@@ -47,6 +47,7 @@ posted y ss h f r l g m p = placed-has (toReceiver (y .message) r) f p (messages
 pub record Taken (M : Machine) {P : Message → Type 0} (s : Somewhere P (M .slots)) (ch : Change) (y : Post) (a : Answer) (pg : Page) : Type 0 where
   pub good : Good M
   pub does : deliverEffect M (suc (at s)) noPage ≡ taken (suc (at s)) ch y a pg
+  pub mail : changed ch M .slots ≡ M .slots
   pub free : isOverfull M (slotAt M (suc (at s))) ≡ false
   pub room : length (messagesOf y) ≤ emptySlots (M .slots) + 1
 
@@ -78,14 +79,14 @@ module _ {M : Machine} {P : Message → Type 0} {s : Somewhere P (M .slots)} {ch
   good-after = subst Good (ap (λ (r : Result). r .machine) delivered) (step-good (deliver (suc (at s)) noPage) M (t .good) (paged (suc (at s))))
 
   pub room-after : (E F : ℕ) → E ≤ emptySlots (M .slots) → F + length (messagesOf y) ≤ E + 1 → F ≤ emptySlots (after .slots)
-  room-after E F h k = omega (arith, placed-count (messagesOf y) (set (M .slots) (at s) noMessage), freed-more)
+  room-after E F h k = rw (t .mail) (omega (arith, placed-count (messagesOf y) (set (M .slots) (at s) noMessage), freed-more))
 
   -- another message waits on, and one that is sent waits
   pub waits-on : {Q : Message → Type 0} → (Q (slotAt M (suc (at s))) → ⊥) → Somewhere Q (M .slots) → Somewhere Q (after .slots)
-  waits-on n w = placed-keeps (messagesOf y) (freed-keeps (at s) n w)
+  waits-on n w = rw (t .mail) (placed-keeps (messagesOf y) (freed-keeps (at s) n w))
 
   pub sends : {Q : Message → Type 0} → isEmpty (y .message) ≡ false → (r : ℕ) → 1 ≤ r → r ≤ 16 → r ∈ y .to → Q (toReceiver (y .message) r) → Somewhere Q (after .slots)
-  sends f = posted y (set (M .slots) (at s) noMessage) (omega (arith, freed-more, t .room)) f
+  sends f = rw (t .mail) (posted y (set (M .slots) (at s) noMessage) (omega (arith, freed-more, t .room)) f)
 
   -- it is one of the deliveries
   pub ends-more : {code c n : ℕ} → Ends code c n after → Ends code c (suc n) M

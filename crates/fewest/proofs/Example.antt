@@ -15,9 +15,10 @@ use Rattle.tables.specs.Machines.{machineOf}
 use Rattle.tables.proofs.Whole.{Paged}
 use Rattle.tables.proofs.Round.{machine-back}
 use Rattle.inspect.specs.Good.{goodNumbers}
+use Rattle.machine.specs.SetUp.{newMachine}
 use Rattle.machine.specs.Calls.{setUp, startRead, startWrite}
-use Rattle.machine.specs.Steps.{newMachine}
 use Rattle.machine.specs.Buffers.{Outcomes, call}
+use Rattle.runs.specs.Runs.{Renews}
 use Rattle.runs.proofs.New.{new-sound, new-room}
 use Rattle.runs.proofs.Runs.{set-up-is}
 use Rattle.fewest.specs.Fewest.{readPrice, writePrice, Takes, askedToRead, askedToWrite, allOf}
@@ -49,8 +50,8 @@ module _ (lay : Layout) (met : Met lay) (m : List ℕ) (long : extent lay ≤ le
       ap (λ (o : Outcomes). machineOf lay (o .buffer)) (set-up-is lay three noPage (met .good) paged m long)
       ∙ machine-back lay N (drop (extent lay) m) (new-sound three noPage paged (lay .directories) (met .good) .whole) (new-room (lay .directories) three noPage)
 
-  accepted : made .answer .code ≡ 0
-  accepted = ap (λ (o : Outcomes). o .answer .code) (set-up-is lay three noPage (met .good) paged m long)
+  accepted : Renews (setUp three noPage) (made .answer)
+  accepted = (tt, ap (λ (o : Outcomes). o .answer .code) (set-up-is lay three noPage (met .good) paged m long))
 
   pub read-of-ten : Takes lay 10 (startRead 1) 1 1 (made .buffer)
   unfolding newMachine
@@ -58,7 +59,7 @@ module _ (lay : Layout) (met : Met lay) (m : List ℕ) (long : extent lay ≤ le
       subst (λ (M : Machine). T (allOf (askedToRead M 1)) → Takes lay (readPrice (M .conf)) (startRead 1) 1 1 (made .buffer)) is
       (read-takes lay (met .few) m three noPage accepted [] 1) (true-T _ (met .read))
 
-  pub write-of-twelve : (page : Page) → Paged page → Takes lay 12 (startWrite 1 page) 2 1 (made .buffer)
+  pub write-of-twelve : (page : Page) → length page ≡ 16 → Takes lay 12 (startWrite 1 page) 2 1 (made .buffer)
   unfolding newMachine
   write-of-twelve page q =
       subst (λ (M : Machine). T (allOf (askedToWrite M 1)) → Takes lay (writePrice (M .conf)) (startWrite 1 page) 2 1 (made .buffer)) is

@@ -3,7 +3,7 @@ use mathlib.Core.Path.{_≡_, refl, ap, _∙_}
 use mathlib.Core.Bool.{not}
 use mathlib.Core.List.{List, [], _∷_}
 use mathlib.Core.Logic.{inl, inr}
-use Prim.Native.Nat.{ℕ, suc, _+_, _≤_}
+use Prim.Native.Nat.{ℕ, suc, _≤_}
 use borrow.Author.Tests.{eq-eqb}
 use lib.Dec.{T, eqb, eqb→eq}
 use lib.ListN.{length}
@@ -21,9 +21,10 @@ use Rattle.machine.specs.Calls.{Call, setUp, startRead, startWrite, deliver}
 use Rattle.machine.specs.Refusals.{isBusy}
 use Rattle.machine.specs.Steps.{Result, step}
 use Rattle.machine.specs.Buffers.{wrongPage, call}
-use Rattle.history.proofs.Shape.{among}
+use Rattle.runs.specs.Runs.{Renews, bufferAfter}
+use Rattle.runs.proofs.Acts.{among}
 use Rattle.history.proofs.Walk.{Good}
-use Rattle.fewest.specs.Fewest.{deliveries, noSetUp, readPrice, writePrice, bufferAfter, Answers, delivering, Takes, askedToRead, askedToWrite, allOf}
+use Rattle.fewest.specs.Fewest.{deliveries, noSetUp, readPrice, writePrice, Answers, delivering, Takes, askedToRead, askedToWrite, allOf}
 use Rattle.fewest.proofs.Ready.{Ready, ready, ready-to-write}
 use Rattle.fewest.proofs.Spent.{priceOf}
 use Rattle.fewest.proofs.Held.{Held, held-good, held-few, answer-is, held-step, held-reached}
@@ -82,7 +83,7 @@ module _ (lay : Layout) (few : lay .directories ≤ 16) (c : ℕ) {M : Machine} 
       takes 2 (startWrite c page) (W .ready) w (ap (λ (r : Result). r .answer .code) (write-begins M G f c (W .ready) page)) (write-ends M G f c (W .ready) page w W)
 
 -- any layout of at most 16 directory rows, any buffer, an accepted set-up with first page p, any calls after it; then client c
-module _ (lay : Layout) (few : lay .directories ≤ 16) (m : List ℕ) (k : Conf) (p : Page) (accepted : call lay (setUp k p) m .answer .code ≡ 0)
+module _ (lay : Layout) (few : lay .directories ≤ 16) (m : List ℕ) (k : Conf) (p : Page) (accepted : Renews (setUp k p) (call lay (setUp k p) m .answer))
     (before : List Call) (c : ℕ) where
   abbrev pub reached : List ℕ
   reached = bufferAfter lay (call lay (setUp k p) m .buffer) before
@@ -95,7 +96,7 @@ module _ (lay : Layout) (few : lay .directories ≤ 16) (m : List ℕ) (k : Conf
   read-takes = read-held lay few c (held-reached lay m k p accepted before)
 
   -- a write of a page of 16 words takes 2rq + 2wq + 2f + 2
-  pub write-takes : (page : Page) → Paged page → T (allOf (askedToWrite M c)) → Takes lay (writePrice (M .conf)) (startWrite c page) 2 c reached
+  pub write-takes : (page : Page) → length page ≡ 16 → T (allOf (askedToWrite M c)) → Takes lay (writePrice (M .conf)) (startWrite c page) 2 c reached
   write-takes = write-held lay few c (held-reached lay m k p accepted before)
 
   -- and no fewer, whoever is up and whatever room there is: asked is only that the client is idle

@@ -4,7 +4,7 @@ use mathlib.Core.Bool.{Bool, true, false, not}
 use mathlib.Core.List.{List, [], _∷_}
 use Prim.Native.Nat.{ℕ, _≤_}
 use native.Mathlib.Omega.{arith}
-use lib.Dec.{T, T-not}
+use lib.Dec.{T}
 use lib.ListN.{length, drop}
 use Rattle.sets.specs.Plain.{if_then_else_}
 use Rattle.sets.proofs.Tests.{if-ind}
@@ -17,67 +17,49 @@ use Rattle.tables.specs.Machines.{machineOf}
 use Rattle.tables.proofs.Read.{its-room}
 use Rattle.tables.proofs.Whole.{Room}
 use Rattle.tables.proofs.Round.{words-back, machine-back}
-use Rattle.machine.specs.Effects.{Effect, applied}
-use Rattle.machine.specs.Calls.{Call, setUp, startRead, startWrite, deliver, gossip, tidy, crash, report}
-use Rattle.machine.specs.Steps.{Result, pageIn, refused, effectOf, accepted, step}
+use Rattle.machine.specs.Effects.{anew, Effect, applied}
+use Rattle.machine.specs.Calls.{Call, setUp, asks}
+use Rattle.machine.specs.Steps.{effectOf, Result, refused, codeOf, step}
 use Rattle.machine.specs.Buffers.{wrongPage, isSetUp, Outcomes, call}
-use Rattle.runs.proofs.Ways.{codeOf, StepWay, refuses, accepts, step-way, allowed, CallWay, sized, bad, steps, call-way, is-long}
-use Rattle.runs.proofs.Sound.{Sound}
-use Rattle.runs.proofs.Reached.{step-sound}
+use Rattle.machine.proofs.Quiet.{quiet-applied}
+use Rattle.runs.specs.Runs.{Renews, bufferAfter, sizedStep}
+use Rattle.runs.proofs.Ways.{StepWay, refuses, accepts, step-way}
+use Rattle.runs.proofs.Acts.{Acts, Does, renews, acts, does}
 use Rattle.runs.proofs.Rows.{numbers-of}
-use Rattle.runs.proofs.Runs.{sizedStep, sized-room, call-is, later-kept}
+use Rattle.runs.proofs.Kept.{paged, step-sound}
+use Rattle.runs.proofs.Runs.{sized-room, call-is, made-fine}
 use Rattle.history.proofs.Invariant.{Invariant}
-use Rattle.history.proofs.Acts.{Acts, acts}
 use Rattle.history.proofs.Kept.{invariant-acts}
 use Rattle.history.proofs.Walk.{Good}
-use Rattle.history.proofs.Fresh.{fresh-by}
+use Rattle.history.proofs.Fresh.{fresh}
 use Rattle.history.proofs.Final.{begins}
-use Rattle.fewest.specs.Fewest.{bufferAfter}
 
 -- ---- steps
 
--- set-up makes the machine anew, every other call applies its effect
-data Kind : Call → Type 0 where
-  renews : (k : Conf) (page : Page) → Kind (setUp k page)
-  keeps : {q : Call} → T (not (isSetUp q)) → ((M : Machine) (e : Effect) → accepted q M e ≡ applied e M) → Kind q
-
-kind : (q : Call) → Kind q
-kind (setUp k page) = renews k page
-kind (startRead c) = keeps tt (λ _ _. refl)
-kind (startWrite c page) = keeps tt (λ _ _. refl)
-kind (deliver s page) = keeps tt (λ _ _. refl)
-kind (gossip from to) = keeps tt (λ _ _. refl)
-kind (tidy i) = keeps tt (λ _ _. refl)
-kind (crash k id) = keeps tt (λ _ _. refl)
-kind report = keeps tt (λ _ _. refl)
-
-pub accepted-is : (q : Call) (M : Machine) (e : Effect) → T (not (isSetUp q)) → accepted q M e ≡ applied e M
-accepted-is q M e n = go (kind q) n
-  where
-    go : {q : Call} → Kind q → T (not (isSetUp q)) → accepted q M e ≡ applied e M
-    go (renews k page) n = absurd n
-    go (keeps _ f) n = f M e
-
 -- what an accepted call but set-up does
-pub call-acts : (q : Call) (M : Machine) → Sound M → T (not (isSetUp q)) → codeOf q M ≡ 0 → Acts M q (effectOf q M)
-call-acts q M z n h = acts M z q (λ r. T-not (isSetUp q) n (r .0)) h
+pub call-acts : (q : Call) (M : Machine) → T (not (isSetUp q)) → codeOf q M ≡ 0 → Acts M q (effectOf q M)
+call-acts q M n h = go (does q M h) n
+  where
+    go : {q : Call} {e : Effect} → Does M q e → T (not (isSetUp q)) → Acts M q e
+    go (renews k page _) n = absurd n
+    go (acts _ a) n = a
 
 pub step-good : (q : Call) (M : Machine) → Good M → T (not (wrongPage q)) → Good (step q M .machine)
 step-good q M G w = record { sound = step-sound q M (G .sound) w; invariant = go (step-way q M) }
   where
-    by : {q : Call} → Kind q → T (not (wrongPage q)) → codeOf q M ≡ 0 → Invariant (accepted q M (effectOf q M))
-    by (renews k page) w h = fresh-by (length (M .directories)) k page (allowed (setUp k page) M h .argument) w .good .invariant
-    by (keeps {q} n f) w h = subst Invariant (sym (f M (effectOf q M))) (invariant-acts M (G .sound) (G .invariant) (call-acts q M (G .sound) n h))
+    by : {q : Call} {e : Effect} → Does M q e → T (not (wrongPage q)) → Invariant (applied e M)
+    by (renews k page g) w = rw (quiet-applied M (anew k page)) (fresh (length (M .directories)) k page g (paged page w) .good .invariant)
+    by (acts _ a) w = invariant-acts M (G .sound) (G .invariant) a
 
     go : {r : Result} → StepWay q M r → Invariant (r .machine)
     go (refuses _) = G .invariant
-    go (accepts h) = by (kind q) w h
+    go (accepts h) = by (does q M h) w
 
 -- with a page of 16 words
 sized-is : (q : Call) (M : Machine) → T (not (wrongPage q)) → sizedStep q M ≡ step q M
 sized-is q M h = go (wrongPage q) h
   where
-    go : (b : Bool) → T (not b) → (if b then refused 16 (pageIn q) M else step q M) ≡ step q M
+    go : (b : Bool) → T (not b) → (if b then refused 16 (asks q .fill) M else step q M) ≡ step q M
     go true h = absurd h
     go false h = refl
 
@@ -119,21 +101,15 @@ module _ (lay : Layout) where
   its-own {M} {m} h = subst (λ (N : Machine). Held N m) (sym (held-machine h)) h
 
   -- an accepted set-up leaves such a buffer
-  held-new : (m : List ℕ) (k : Conf) (p : Page) → call lay (setUp k p) m .answer .code ≡ 0 → Holds (call lay (setUp k p) m .buffer)
-  held-new m k p e =
+  held-new : (m : List ℕ) (k : Conf) (p : Page) → Renews (setUp k p) (call lay (setUp k p) m .answer) → Holds (call lay (setUp k p) m .buffer)
+  held-new m k p r =
       let b : List ℕ = call lay (setUp k p) m .buffer in
-      subst (Held (machineOf lay b)) (words-back lay b (rw (later-kept lay (setUp k p) m .long) (long (call-way lay (setUp k p) m) e)))
-      (held (begins lay m k p e .good) (its-room lay b) (drop (extent lay) b))
-    where
-      long : {o : Outcomes} → CallWay lay (setUp k p) m o → o .answer .code ≡ 0 → extent lay ≤ length m
-      long (sized _) e = absurd (omega arith)
-      long (bad _ b) e = absurd b
-      long (steps w _) e = is-long lay (setUp k p) m w
+      subst (Held (machineOf lay b)) (words-back lay b (made-fine lay k p m r .long)) (held (begins lay m k p r .good) (its-room lay b) (drop (extent lay) b))
 
   held-after : (qs : List Call) {m : List ℕ} → Holds m → Holds (bufferAfter lay m qs)
   held-after [] h = h
   held-after (q ∷ qs) h = held-after qs (its-own (held-call q h))
 
   -- and so does every buffer after it
-  pub held-reached : (m : List ℕ) (k : Conf) (p : Page) → call lay (setUp k p) m .answer .code ≡ 0 → (qs : List Call) → Holds (bufferAfter lay (call lay (setUp k p) m .buffer) qs)
+  pub held-reached : (m : List ℕ) (k : Conf) (p : Page) → Renews (setUp k p) (call lay (setUp k p) m .answer) → (qs : List Call) → Holds (bufferAfter lay (call lay (setUp k p) m .buffer) qs)
   held-reached m k p e qs = held-after qs (held-new m k p e)

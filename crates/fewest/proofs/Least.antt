@@ -1,5 +1,5 @@
 -- NO FEWER: where a client is idle, no sequence of calls without set-up ends an operation of it below the price, whoever is up and whatever room there is.
-use mathlib.Core.Path.{_≡_, refl, sym, subst}
+use mathlib.Core.Path.{_≡_, refl, subst}
 use mathlib.Core.Bool.{Bool, true, false, not}
 use mathlib.Core.List.{List, [], _∷_}
 use mathlib.Core.Logic.{_⊎_, inl, inr}
@@ -16,18 +16,18 @@ use Rattle.tables.specs.declared.Conf.{Conf}
 use Rattle.tables.specs.Tables.{Page, Machine, clientAt}
 use Rattle.rules.specs.Answers.{coded}
 use Rattle.rules.specs.declared.Answer.{Answer}
-use Rattle.machine.specs.Effects.{applied}
 use Rattle.machine.specs.Calls.{Call}
-use Rattle.machine.specs.Steps.{Result, effectOf, step}
+use Rattle.machine.specs.Steps.{effectOf, Result, accepted, codeOf, step}
 use Rattle.machine.specs.Buffers.{wrongPage, isSetUp, call}
-use Rattle.runs.proofs.Ways.{codeOf, StepWay, refuses, accepts, step-way}
-use Rattle.runs.proofs.Sound.{changed-conf}
-use Rattle.runs.proofs.Runs.{sizedStep}
-use Rattle.history.proofs.Shape.{Among, client-in}
+use Rattle.runs.specs.Runs.{sizedStep}
+use Rattle.runs.proofs.Ways.{StepWay, refuses, accepts, step-way}
+use Rattle.runs.proofs.Acts.{Among}
+use Rattle.history.proofs.Shape.{client-in}
+use Rattle.history.proofs.Kept.{acts-later}
 use Rattle.history.proofs.Walk.{Good}
 use Rattle.fewest.specs.Fewest.{isDeliver, deliveries, noSetUp, Answers}
 use Rattle.fewest.proofs.Spent.{Cost, priceOf, costOf, spends, ends}
-use Rattle.fewest.proofs.Held.{accepted-is, call-acts, Held, held, held-answer, held-call, held-few}
+use Rattle.fewest.proofs.Held.{call-acts, Held, held, held-answer, held-call, held-few}
 
 -- ---- one call
 
@@ -52,11 +52,11 @@ module _ (M : Machine) (G : Good M) (few : M .conf .directories ≤ 16) (c d : �
         price = λ _. no-price (M .conf) code (d + costOf q) h;
       }
 
-  acted : codeOf q M ≡ 0 → Costs M c d q (record { answer = effectOf q M .answer; page = effectOf q M .page; machine = applied (effectOf q M) M })
+  acted : codeOf q M ≡ 0 → Costs M c d q (accepted (effectOf q M) M)
   acted h =
-      let a = call-acts q M (G .sound) n h in
+      let a = call-acts q M n h in
       record {
-        conf = changed-conf (effectOf q M .change) M;
+        conf = acts-later M a .conf;
         next = spends M (G .sound) few (G .invariant) c d g a;
         price = ends M (G .sound) few (G .invariant) c d g a;
       }
@@ -66,9 +66,7 @@ module _ (M : Machine) (G : Good M) (few : M .conf .directories ≤ 16) (c d : �
     where
       go : {r : Result} → StepWay q M r → Costs M c d q r
       go (refuses k) = stays (codeOf q M) _ (omega arith)
-      go (accepts h) =
-          subst (λ (N : Machine). Costs M c d q (record { answer = effectOf q M .answer; page = effectOf q M .page; machine = N }))
-          (sym (accepted-is q M (effectOf q M) n)) (acted h)
+      go (accepts h) = acted h
 
   costs : Costs M c d q (sizedStep q M)
   costs = if-ind (Costs M c d q) (wrongPage q) (λ _. stays 16 _ (omega arith)) (λ _. stepped)

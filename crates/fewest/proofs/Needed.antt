@@ -14,10 +14,11 @@ use Rattle.rules.specs.Quorums.{enoughToRead, enoughToWrite}
 use Rattle.rules.specs.Directory.{directoryAfter, directoryPost}
 use Rattle.rules.specs.Replica.{entryWith, raised, highest, secure, write, hearGossip, read, tidied, replicaAfter, replicaPost, isFull, gossipPost}
 use Rattle.rules.specs.Client.{awaited, enoughFor, isStale, heard, chosen, turned, outcome, clientAfter, request, secures, clientPost}
+use Rattle.machine.specs.SetUp.{newMachine}
 use Rattle.machine.specs.Calls.{Call, startRead, startWrite, gossip, crash, partyOf, startEffect, gossipEffect, tidyEffect, crashEffect}
 use Rattle.machine.specs.Deliver.{clientEffect, directoryEffect, replicaEffect, deliverEffect}
 use Rattle.machine.specs.Refusals.{refusal}
-use Rattle.machine.specs.Steps.{newMachine, effectOf, step}
+use Rattle.machine.specs.Steps.{effectOf, step}
 use Rattle.fewest.specs.Fewest.{delivering, askedToRead, askedToWrite}
 use Rattle.fewest.specs.Hangs.{after, allBut, Hangs}
 

@@ -20,8 +20,9 @@ use Rattle.mail.specs.Slots.{emptySlots}
 use Rattle.inspect.specs.Good.{isParty}
 use Rattle.machine.specs.Calls.{isDown}
 use Rattle.machine.specs.Refusals.{isBusy, isWorn}
+use Rattle.runs.proofs.Acts.{Among, among}
 use Rattle.runs.proofs.Rows.{directory-of}
-use Rattle.history.proofs.Shape.{Among, among, client-in}
+use Rattle.history.proofs.Shape.{client-in}
 use Rattle.history.proofs.Walk.{Good}
 use Rattle.fewest.specs.Fewest.{leastToRead, leastToWrite, ups, downs, slotsAsked, askedToRead, keepers, isAtTop, askedToWrite, allOf}
 

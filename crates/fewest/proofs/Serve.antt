@@ -32,9 +32,8 @@ use Rattle.machine.specs.Effects.{Change, nothing, directory, replica, Effect, 
 use Rattle.machine.specs.Calls.{isDown}
 use Rattle.machine.specs.Deliver.{taken, received, deliverEffect, directoryEffect, replicaEffect}
 use Rattle.machine.specs.Refusals.{isOverfull}
-use Rattle.runs.proofs.Rows.{numbers-of}
-use Rattle.history.proofs.Rows.{row-ind}
-use Rattle.history.proofs.Shape.{Among}
+use Rattle.runs.proofs.Acts.{Among}
+use Rattle.runs.proofs.Rows.{row-ind, numbers-of}
 use Rattle.history.proofs.Walk.{Good}
 use Rattle.fewest.proofs.Waiting.{Somewhere, at, found}
 use Rattle.fewest.proofs.Delivery.{Ends, Taken, good-after, room-after, waits-on, sends, ends-more}
@@ -124,6 +123,7 @@ record Serves (M : Machine) (s p c q n top : ℕ) (x : Message) : Type 0 where
   answers : Reply p q c n top (toReceiver reply c)
   kept : Kept M p (changed change M)
   clients : changed change M .clients ≡ M .clients
+  mail : changed change M .slots ≡ M .slots
   others : (r : ℕ) → (r ≡ q → ⊥) → Able p top (directoryAt M r) (replicaAt M r) → Able p top (directoryAt (changed change M) r) (replicaAt (changed change M) r)
 
 down-same : (f : ℕ) (d : Directory) (x : Message) → directoryAfter f d x .down ≡ d .down
@@ -165,6 +165,7 @@ module _ (M : Machine) (s p c q n top : ℕ) (t : Tag) (set spare : ℕ) (page :
           stock = λ _. refl;
         };
         clients = refl;
+        mail = refl;
         others = λ r z u. row-ind (λ (v : Directory). Able p top v (replicaAt M r)) noDirectory (M .directories) q r newD (λ (e : q ≡ r). absurd (z (sym e))) u;
       }
 
@@ -186,6 +187,7 @@ module _ (M : Machine) (s p c q n top : ℕ) (t : Tag) (set spare : ℕ) (page :
           stock = λ e. absurd (not4 e);
         };
         clients = refl;
+        mail = refl;
         others = λ r z u. row-ind (λ (v : Replica). Able p top (directoryAt M r) v) noReplica (M .replicas) q r newR (λ (e : q ≡ r). absurd (z (sym e))) u;
       }
 
@@ -241,4 +243,4 @@ served {B} {M} {c} {E} {p} {q} {w} h o d new f =
     one = length-messages (post (S .reply) (only c)) (only-lt 16 c few) ∙ size-only c (o .party .low)
 
     t : Taken M (d .asks) (S .change) (post (S .reply) (only c)) (coded 0) noPage
-    t = record { good = o .good; does = S .does; free = S .free; room = omega (arith, one) }
+    t = record { good = o .good; does = S .does; mail = S .mail; free = S .free; room = omega (arith, one) }

@@ -1,7 +1,7 @@
 -- What the open operation of a client has cost so far: each call adds at most what it is, and an end is never cheaper than its price.
 use mathlib.Core.Path.{_≡_, refl, sym, ap, subst, _∙_}
 use mathlib.Core.Logic.{⊎-elim}
-use mathlib.Core.List.{List}
+use mathlib.Core.List.{List, [], _∷_}
 use Prim.Native.Nat.{ℕ, _+_, _*_, _^_, _≤_, _<_}
 use native.Mathlib.Decide.{ℕ-discrete}
 use native.Mathlib.Omega.{arith}
@@ -18,9 +18,8 @@ use Rattle.tables.specs.declared.Message.{Message}
 use Rattle.tables.specs.declared.Party.{Party}
 use Rattle.tables.specs.declared.Party.the-variants.{Nobody, AClient, ADirectory, AReplica}
 use Rattle.tables.specs.Kinds.{senderOf, manyOf}
-use Rattle.tables.specs.Rows.{row}
 use Rattle.tables.specs.Tables.{Page, Machine, noMessage, clientAt, directoryAt, replicaAt, slotAt, noPage}
-use Rattle.tables.proofs.All.{All, all-map, all-row}
+use Rattle.tables.proofs.All.{All, none, cons, all-map, all-row}
 use Rattle.rules.specs.declared.Outcome.{Outcome}
 use Rattle.rules.specs.Answers.{answerOf}
 use Rattle.rules.specs.Replica.{gossipPost}
@@ -29,13 +28,15 @@ use Rattle.rules.proofs.Heard.{heard-keeps, heard-answered}
 use Rattle.rules.proofs.Views.{Timely, Completes, View, v-stale, v-waits, v-1, v-2, v-3, v-4, v-spent, v-5, v-6}
 use Rattle.machine.specs.Effects.{Effect, applied}
 use Rattle.machine.specs.Calls.{Call, downClient}
+use Rattle.runs.proofs.Codes.{one-of}
+use Rattle.runs.proofs.Acts.{Acts, reads, writes, empties, directs, stores, hears, gossips, tidies, crashes, begun, answered}
 use Rattle.runs.proofs.Sound.{Sound}
 use Rattle.runs.proofs.Rows.{numbers-of}
+use Rattle.runs.proofs.Kept.{Arrives, arrives}
 use Rattle.history.proofs.Rows.{OfClient, of-downed, each-client, Sent, all-slots}
 use Rattle.history.proofs.Invariant.{MessageOk, Invariant}
 use Rattle.history.proofs.Later.{reply-past}
 use Rattle.history.proofs.Keeping.{unsent}
-use Rattle.history.proofs.Acts.{Acts, Comes, reads, writes, drops, directs, stores, hears, gossips, tidies, crashes, reports, begun, answered}
 use Rattle.fewest.specs.Fewest.{isDeliver, leastToRead, leastToWrite, readPrice, writePrice}
 use Rattle.fewest.proofs.Quorums.{needed, enough-least}
 use Rattle.fewest.proofs.Replies.{awaited-reply, Replies, NoReply, request-asks, client-asks, directory-own, replica-own}
@@ -127,7 +128,7 @@ few-parties z few AReplica = omega (arith, numbers-of z .few-replicas)
 abbrev pub priceOf : Conf → ℕ → ℕ
 priceOf k code = if eqb code 1 then readPrice k else if eqb code 2 then writePrice k else 0
 
-module _ (M : Machine) (z : Sound M) (few : M .conf .directories ≤ 16) (v : Invariant M) (s : ℕ) (page : Page) (m : Comes M (M .conf .clients) s) where
+module _ (M : Machine) (z : Sound M) (few : M .conf .directories ≤ 16) (v : Invariant M) (s : ℕ) (page : Page) (m : Arrives M AClient s) where
   abbrev x : Message
   x = slotAt M s
 
@@ -259,12 +260,12 @@ module _ (M : Machine) (z : Sound M) (few : M .conf .directories ≤ 16) (v : In
 
   pub spends : {q : Call} {e : Effect} → Acts M q e → Cost (M .conf) c (applied e M .slots) (d + costOf q) (clientAt (applied e M) c)
   unfolding gossipPost
-  spends (reads a _ _) = begins a 1 noPage refl
-  spends (writes a page _ _) = begins a 4 page refl
-  spends {e = e} (drops s page) = quiet M c e (unsent NoReply) (omega arith) g
-  spends {e = e} (directs s page k) = answers M c e (slotAt M s .receiver) (k .receiver .low) (directory-own (slotAt M s) (directoryAt M (slotAt M s .receiver))) (omega arith) g
+  spends (reads a _) = begins a 1 noPage refl
+  spends (writes a page _) = begins a 4 page refl
+  spends {e = e} (empties q slots n _ _) = quiet M c e (unsent NoReply) (omega arith) g
+  spends {e = e} (directs s page k) = answers M c e (slotAt M s .receiver) (arrives z k .receiver .low) (directory-own (slotAt M s) (directoryAt M (slotAt M s .receiver))) (omega arith) g
   spends {e = e} (stores s page k _) =
-      answers M c e (slotAt M s .receiver) (k .receiver .low) (replica-own (slotAt M s) (M .conf .directories) (replicaAt M (slotAt M s .receiver) .entries)) (omega arith) g
+      answers M c e (slotAt M s .receiver) (arrives z k .receiver .low) (replica-own (slotAt M s) (M .conf .directories) (replicaAt M (slotAt M s .receiver) .entries)) (omega arith) g
   spends (hears s page {o} k w) =
       let e : Effect = answered M s (slotAt M s) page o in
       let own : ℕ = slotAt M s .receiver in
@@ -273,9 +274,9 @@ module _ (M : Machine) (z : Sound M) (few : M .conf .directories ≤ 16) (v : In
       asks e (d + 1) (omega arith) h
       (λ (q : own ≡ c).
       subst (λ (b : ℕ). Cost (M .conf) b (M .slots) d (clientAt M b) → Cost (M .conf) b (applied e M .slots) (d + 1) y) q
-      (λ g. hears-own M z few v s page k d g e w h) g)
-  spends {e = e} (gossips from to _) = quiet M c e (λ p m h. h) (omega arith) g
-  spends {e = e} (tidies r) = quiet M c e (unsent NoReply) (omega arith) g
+      (λ g. hears-own M z few v s page (arrives z k) d g e w h) g)
+  spends {e = e} (gossips from to _ _) = quiet M c e (λ p m h. h) (omega arith) g
+  spends {e = e} (tidies r _) = quiet M c e (unsent NoReply) (omega arith) g
   spends {e = e} (crashes kind id who _) =
       asks e (d + 0) (omega arith) (unsent NoReply)
       (of-downed (Paid e (d + 0)) M who id
@@ -284,12 +285,11 @@ module _ (M : Machine) (z : Sound M) (few : M .conf .directories ≤ 16) (v : In
       -- its flag costs nothing
       downs : {k : Conf} {ss : List Message} {d : ℕ} {w : Client} → Cost k c ss d w → Cost k c ss d (downClient w)
       downs g = record { replied = g .replied; few = g .few; inside = g .inside; waits = g .waits; paid = g .paid }
-  spends {e = e} reports = quiet M c e (unsent NoReply) (omega arith) g
 
   pub ends : {q : Call} {e : Effect} → Acts M q e → e .answer .client ≡ c → priceOf (M .conf) (e .answer .code) ≤ d + costOf q
-  ends (reads a _ _) h = omega arith
-  ends (writes a page _ _) h = omega arith
-  ends (drops s page) h = omega arith
+  ends (reads a _) h = omega arith
+  ends (writes a page _) h = omega arith
+  ends (empties q slots n o _) h = one-of (λ (code : ℕ). priceOf (M .conf) code ≤ d + costOf q) n (0 ∷ 4 ∷ []) (cons (omega arith) (cons (omega arith) none)) o
   ends (directs s page k) h = omega arith
   ends (stores s page k _) h = omega arith
   ends (hears s page {o} k w) h = of w h
@@ -298,7 +298,7 @@ module _ (M : Machine) (z : Sound M) (few : M .conf .directories ≤ 16) (v : In
           → priceOf (M .conf) (answerOf (slotAt M s .receiver) o .code) ≤ d + 1
       own {o} u q =
           subst (λ (b : ℕ). Cost (M .conf) b (M .slots) d (clientAt M b) → priceOf (M .conf) (answerOf (slotAt M s .receiver) o .code) ≤ d + 1) q
-          (λ g. ends-own M z few v s page k d g u) g
+          (λ g. ends-own M z few v s page (arrives z k) d g u) g
 
       of : {o : Outcome} → View (M .conf) (slotAt M s .receiver) (clientAt M (slotAt M s .receiver)) (slotAt M s) o → answerOf (slotAt M s .receiver) o .client ≡ c
           → priceOf (M .conf) (answerOf (slotAt M s .receiver) o .code) ≤ d + 1
@@ -311,7 +311,6 @@ module _ (M : Machine) (z : Sound M) (few : M .conf .directories ≤ 16) (v : In
       of (v-spent _ _) h = omega arith
       of (v-5 _) h = omega arith
       of (v-6 q) h = own (v-6 q) h
-  ends (gossips from to _) h = omega arith
-  ends (tidies r) h = omega arith
+  ends (gossips from to _ _) h = omega arith
+  ends (tidies r _) h = omega arith
   ends (crashes kind id who _) h = omega arith
-  ends reports h = omega arith

@@ -21,9 +21,9 @@ use Rattle.machine.specs.Refusals.{noSlot}
 use Rattle.machine.specs.Steps.{Result, effectOf, step}
 use Rattle.machine.specs.Buffers.{wrongPage}
 use Rattle.runs.proofs.Ways.{Allowed, allows}
+use Rattle.runs.proofs.Acts.{Among, begun}
 use Rattle.runs.proofs.Rows.{numbers-of}
-use Rattle.history.proofs.Acts.{begun}
-use Rattle.history.proofs.Shape.{Among, client-set}
+use Rattle.history.proofs.Shape.{client-set}
 use Rattle.history.proofs.Walk.{Good}
 use Rattle.fewest.specs.Fewest.{readPrice, writePrice}
 use Rattle.fewest.proofs.Quorums.{mostDirectories}

@@ -1,22 +1,23 @@
 -- Where no deliver call is accepted, none ever is, however many are tried.
 use mathlib.Core.Path.{_≡_, refl}
-use mathlib.Core.Bool.{Bool, false, not, _&&_, _||_}
+use mathlib.Core.Bool.{Bool, false, _&&_, _||_}
 use mathlib.Core.List.{List, [], _∷_}
 use Prim.Native.Nat.{ℕ, _≤_}
 use native.Mathlib.Omega.{arith}
 use borrow.Author.Tests.{ne-eqb}
-use lib.Dec.{T, leb, eqb, T-not, le→leb}
-use Rattle.sets.specs.Plain.{numbers}
+use lib.Dec.{T, eqb, T-not}
+use Rattle.sets.specs.Plain.{numbers, oneOf}
 use Rattle.sets.proofs.Members.{in-numbers}
 use Rattle.sets.proofs.Tests.{true-T, not-not}
 use Rattle.tables.specs.Tables.{Machine, noPage}
 use Rattle.tables.proofs.Lists.{none-passes}
 use Rattle.inspect.specs.Good.{between}
 use Rattle.machine.specs.Calls.{Call, deliver}
+use Rattle.machine.specs.Refusals.{acceptedCodes}
 use Rattle.machine.specs.Steps.{Result, step}
 use Rattle.runs.proofs.Ways.{StepWay, refuses, accepts, step-way, allowed}
+use Rattle.runs.proofs.Acts.{Among, among}
 use Rattle.runs.proofs.Refused.{step-accepts}
-use Rattle.history.proofs.Shape.{Among, among}
 use Rattle.fewest.specs.Fewest.{delivering}
 use Rattle.fewest.specs.Hangs.{after, isAnswered, isStuck, Hangs}
 use Rattle.fewest.proofs.Ready.{of-each}
@@ -24,7 +25,7 @@ use Rattle.fewest.proofs.Ready.{of-each}
 module _ (code c : ℕ) (low : code ≤ 5) where
   module _ (M : Machine) (z : T (isStuck M)) where
     abbrev isTaken : ℕ → Bool
-    isTaken s = leb (step (deliver s noPage) M .answer .code) 15
+    isTaken s = oneOf (step (deliver s noPage) M .answer .code) acceptedCodes
 
     -- a refusal, and the machine stays
     record Stays (r : Result) : Type 0 where
@@ -39,7 +40,7 @@ module _ (code c : ℕ) (low : code ≤ 5) where
         go (accepts e) =
             let i : Among 128 s = among 128 s (not-not (between 1 128 s) (allowed (deliver s noPage) M e .argument)) in
             let no = of-each (none-passes isTaken (numbers 1 128) z) (in-numbers 1 128 s (i .low) (omega (arith, i .high))) in
-            absurd (T-not (isTaken s) no (le→leb (step (deliver s noPage) M .answer .code) 15 (omega (arith, step-accepts (deliver s noPage) M e))))
+            absurd (T-not (isTaken s) no (step-accepts (deliver s noPage) M e))
 
     never : (slots : List ℕ) → isAnswered code c M (delivering slots) ≡ false
     never [] = refl

@@ -172,6 +172,7 @@ module _ {B M : Machine} {c E p q : ℕ} {w : Client} (h : Phase p) (R : Replied
           good = R .on .good;
           does = reply-effect M (suc (at (R .reply))) h told-mail (ap (λ (y : Client). eqb (y .down) 1) (R .on .row) ∙ ap (λ (z : ℕ). eqb z 1) (R .on .up))
               ∙ ap (λ (y : Client). heardBy M (suc (at (R .reply))) c y told (outcome (M .conf) c y told)) (R .on .row) ∙ ap (heardBy M (suc (at (R .reply))) c w told) is;
+          mail = refl;
           free = reply-free M h told-mail;
           room = room;
         }

@@ -1,5 +1,5 @@
 -- How few deliveries will do: what is asked, what an operation then costs, what is counted, and what it is to take so many.
-use Rattle.sets.specs.Plain.{_≡_, _⊎_, Bool, true, false, not, _&&_, ℕ, _+_, _*_, T, leb, eqb, List, [], _∷_, _++_, map, length, keep, numbers}
+use Rattle.sets.specs.Plain.{_≡_, _⊎_, Bool, true, not, _&&_, ℕ, _+_, _*_, T, leb, eqb, List, [], _∷_, _++_, map, length, keep, numbers}
 use Prim.Native.Nat.{_≤_}
 use Rattle.tables.specs.declared.Layout.{Layout}
 use Rattle.tables.specs.declared.Conf.{Conf}
@@ -10,7 +10,7 @@ use Rattle.tables.specs.Rows.{some?, count}
 use Rattle.tables.specs.Tables.{Machine, noPage, directoryAt, replicaAt, isFree}
 use Rattle.mail.specs.Slots.{emptySlots}
 use Rattle.inspect.specs.Good.{isParty}
-use Rattle.machine.specs.Calls.{Call, setUp, startRead, startWrite, deliver, gossip, tidy, crash, report, isDown}
+use Rattle.machine.specs.Calls.{Call, deliver, asks, asked, isDown}
 use Rattle.machine.specs.Refusals.{isBusy, isWorn}
 use Rattle.machine.specs.Buffers.{isSetUp, call}
 
@@ -80,14 +80,7 @@ writePrice k = 2 * leastToRead k + 2 * leastToWrite k + 2 * k .f + 2
 -- ---- "Counted are the deliver calls of a sequence without set-up": refused ones too
 
 abbrev pub isDeliver : Call → Bool
-isDeliver (setUp k page) = false
-isDeliver (startRead c) = false
-isDeliver (startWrite c page) = false
-isDeliver (deliver s page) = true
-isDeliver (gossip from to) = false
-isDeliver (tidy r) = false
-isDeliver (crash kind id) = false
-isDeliver report = false
+isDeliver c = asked (λ s. true) (asks c .delivered)
 
 abbrev pub deliveries : List Call → ℕ
 deliveries cs = count isDeliver cs
@@ -96,11 +89,6 @@ abbrev pub noSetUp : List Call → Bool
 noSetUp cs = not (some? isSetUp cs)
 
 -- ---- "can be started and ended by .. deliveries and by no fewer"
-
--- calls on a lent buffer, each on what the call before it left
-abbrev pub bufferAfter : Layout → List ℕ → List Call → List ℕ
-bufferAfter lay m [] = m
-bufferAfter lay m (q ∷ qs) = bufferAfter lay (call lay q m .buffer) qs
 
 -- some call of the sequence answers client c with this code
 abbrev pub Answers : Layout → (code c : ℕ) → List ℕ → List Call → Type 0

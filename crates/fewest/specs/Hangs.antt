@@ -1,8 +1,9 @@
 -- How an operation hangs: the words of the examples that show each premise to be needed.
-use Rattle.sets.specs.Plain.{_≡_, Bool, true, false, not, _&&_, _||_, ℕ, leb, eqb, List, [], _∷_, map, numbers}
+use Rattle.sets.specs.Plain.{_≡_, Bool, true, false, not, _&&_, _||_, ℕ, eqb, List, [], _∷_, map, numbers, oneOf}
 use Rattle.tables.specs.Rows.{some?}
 use Rattle.tables.specs.Tables.{Machine, noPage}
 use Rattle.machine.specs.Calls.{Call, deliver}
+use Rattle.machine.specs.Refusals.{acceptedCodes}
 use Rattle.machine.specs.Steps.{step}
 use Rattle.fewest.specs.Fewest.{delivering}
 
@@ -16,9 +17,9 @@ abbrev pub isAnswered : (code c : ℕ) → Machine → List Call → Bool
 isAnswered code c M [] = false
 isAnswered code c M (q ∷ qs) = eqb (step q M .answer .code) code && eqb (step q M .answer .client) c || isAnswered code c (step q M .machine) qs
 
--- no deliver call is accepted: each answers 16 or more
+-- no deliver call is accepted
 abbrev pub isStuck : Machine → Bool
-isStuck M = not (some? (λ s. leb (step (deliver s noPage) M .answer .code) 15) (numbers 1 128))
+isStuck M = not (some? (λ s. oneOf (step (deliver s noPage) M .answer .code) acceptedCodes) (numbers 1 128))
 
 -- n tests, of which the i-th alone fails
 abbrev pub allBut : (i n : ℕ) → List Bool

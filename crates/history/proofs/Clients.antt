@@ -32,10 +32,11 @@ use Rattle.rules.specs.Quorums.{enoughToRead, enoughToWrite}
 use Rattle.rules.specs.Client.{awaited, enoughFor, hearing, gathered as gatheredBy, raised, heard, moved, started, clientAfter, request, secures, clientPost}
 use Rattle.rules.proofs.Heard.{heard-keeps, heard-answered}
 use Rattle.rules.proofs.Views.{Timely, Completes, View, v-stale, v-waits, v-1, v-2, v-3, v-4, v-spent, v-5, v-6}
+use Rattle.runs.proofs.Acts.{Among}
 use Rattle.runs.proofs.Sound.{Sound}
 use Rattle.runs.proofs.Rows.{numbers-of}
 use Rattle.history.proofs.Rows.{Sent}
-use Rattle.history.proofs.Shape.{Among, client-in}
+use Rattle.history.proofs.Shape.{client-in}
 use Rattle.history.proofs.Invariant.{CoversAt, Told, Reached, Known, While, Fact, MessageOk, Gathering, unheard, gathered, PhaseFact, ClientOk, Invariant}
 use Rattle.history.proofs.Later.{Later, settled, ifT-with, told-later, known-later}
 use Rattle.history.proofs.Keeping.{unsent}

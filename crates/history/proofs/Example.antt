@@ -14,6 +14,7 @@ use Rattle.tables.specs.Layouts.{base, wide, extent}
 use Rattle.tables.specs.Machines.{rowsOf, clientsOf, directoriesOf, slotsOf, confOf, clientOf, directoryOf, entryOf, messageOf, entriesOf, replicasOf, machineOf}
 use Rattle.tables.specs.Words.{confWords, clientWords, directoryWords, downWords, entryWords, replicaWords, messageWords, blocks, words}
 use Rattle.inspect.specs.Good.{goodNumbers, zeros, goodClient, goodDirectory, goodEntry, tagsOnce, goodReplica, goodMessage, clientRow, directoryRow, replicaRow, slotRow, goodMachine, good}
+use Rattle.machine.specs.SetUp.{newMachine}
 use Rattle.machine.specs.Buffers.{call}
 use Rattle.rules.specs.declared.Answer.{Answer}
 use Rattle.rules.specs.Answers.{answer, coded}
@@ -25,7 +26,7 @@ use Rattle.rules.specs.Client.{awaited, enoughFor, isStale, heard, chosen, turn
 use Rattle.machine.specs.Calls.{Call, setUp, startRead, startWrite, deliver, startEffect}
 use Rattle.machine.specs.Deliver.{clientEffect, directoryEffect, replicaEffect, deliverEffect}
 use Rattle.machine.specs.Refusals.{refusal}
-use Rattle.machine.specs.Steps.{newMachine, effectOf, step}
+use Rattle.machine.specs.Steps.{effectOf, step}
 use Rattle.order.specs.Run.{Event, read-begins, write-begins, read-ends, write-ends, nothing, events}
 use Rattle.history.specs.Show.{eventOf, onBuffer}
 

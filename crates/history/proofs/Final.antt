@@ -2,35 +2,36 @@
 use mathlib.Core.Path.{_≡_, refl, subst, sym, _∙_}
 use mathlib.Core.Bool.{true, not}
 use mathlib.Core.Logic.{_⊎_, inl, inr}
-use mathlib.Core.List.{List, _∷_, _++_}
+use mathlib.Core.List.{List, [], _∷_, _++_}
 use Prim.Native.Nat.{ℕ}
 use native.Mathlib.Omega.{arith}
 use lib.Dec.{T}
-use lib.ListN.{length, drop}
+use lib.ListN.{drop}
 use Rattle.tables.specs.declared.Layout.{Layout}
 use Rattle.tables.specs.declared.Conf.{Conf}
 use Rattle.tables.specs.Tables.{Page, Machine}
 use Rattle.tables.specs.Layouts.{extent}
-use Rattle.tables.specs.Words.{words}
 use Rattle.tables.specs.Machines.{machineOf}
 use Rattle.tables.proofs.Read.{its-room}
 use Rattle.tables.proofs.Whole.{Paged}
 use Rattle.tables.proofs.Round.{machine-back}
 use Rattle.inspect.specs.Good.{goodNumbers}
+use Rattle.machine.specs.SetUp.{newMachine}
 use Rattle.machine.specs.Calls.{Call, setUp}
-use Rattle.machine.specs.Steps.{Result, newMachine, step}
+use Rattle.machine.specs.Steps.{step}
 use Rattle.machine.specs.Buffers.{wrongPage, Outcomes, call}
-use Rattle.runs.proofs.Ways.{StepWay, refuses, accepts, step-way, allowed, CallWay, sized, bad, steps, call-way, is-paged}
-use Rattle.runs.proofs.New.{new-room}
-use Rattle.runs.proofs.Reached.{step-sound, step-room}
+use Rattle.runs.specs.Runs.{Renews, NoneRenews, Run}
+use Rattle.runs.proofs.Ways.{CallWay, sized, bad, steps, call-way, is-paged}
+use Rattle.runs.proofs.Kept.{step-sound, step-room}
+use Rattle.runs.proofs.Runs.{set-up-asked, made-machine}
 use Rattle.order.specs.Run.{_∈_, Event, nothing, reading, Op, ops, Proper, Finished, EndedBefore, last-page, OneLine, events, AllMeant}
 use Rattle.order.specs.Method.{Fresh, SeenAs}
 use Rattle.order.proofs.Atomic.{atomic, atomic-seen}
 use Rattle.order.proofs.Hours.{hours}
-use Rattle.history.specs.Show.{eventOf, Renews, onBuffer}
+use Rattle.history.specs.Show.{eventOf, onBuffer}
 use Rattle.history.proofs.Ways.{refused-shows}
 use Rattle.history.proofs.Walk.{Good, layered, onMachine, keeps}
-use Rattle.history.proofs.Fresh.{fresh, fresh-by}
+use Rattle.history.proofs.Fresh.{fresh}
 
 -- ---- over steps
 
@@ -66,42 +67,34 @@ module _ (lay : Layout) where
           )
 
   -- an accepted set-up leaves a new machine
-  pub begins : (m : List ℕ) (k : Conf) (p : Page) → call lay (setUp k p) m .answer .code ≡ 0 → Fresh layered p (machineOf lay (call lay (setUp k p) m .buffer))
-  begins m k p = go (call-way lay (setUp k p) m)
-    where
-      rows : ℕ
-      rows = length (machineOf lay m .directories)
+  pub begins : (m : List ℕ) (k : Conf) (p : Page) → Renews (setUp k p) (call lay (setUp k p) m .answer) → Fresh layered p (machineOf lay (call lay (setUp k p) m .buffer))
+  begins m k p r =
+      let a = set-up-asked lay k p m r in
+      subst (Fresh layered p) (sym (made-machine lay k p m r)) (fresh (lay .directories) k p (a .numbers) (a .paged))
 
-      stepped : T (not (wrongPage (setUp k p))) → {r : Result} → StepWay (setUp k p) (machineOf lay m) r → r .answer .code ≡ 0
-          → Fresh layered p (machineOf lay (words (r .machine) (drop (extent lay) m)))
-      stepped w (refuses h) e = absurd (omega arith)
-      stepped w (accepts h) e =
-          let f = fresh-by rows k p (allowed (setUp k p) (machineOf lay m) h .argument) w in
-          subst (Fresh layered p)
-          (sym (machine-back lay (newMachine rows k p) (drop (extent lay) m) (f .good .sound .whole) (new-room rows k p ∙ its-room lay m))) f
+  all-meant : (cs : List Call) (m : List ℕ) → NoneRenews lay m cs → AllMeant (onBuffer lay) m cs
+  unfolding AllMeant
+  all-meant [] m n = tt
+  all-meant (c ∷ cs) m n = (n .0, all-meant cs (call lay c m .buffer) (n .1))
 
-      go : {o : Outcomes} → CallWay lay (setUp k p) m o → o .answer .code ≡ 0 → Fresh layered p (machineOf lay (o .buffer))
-      go (sized _) e = absurd (omega arith)
-      go (bad _ b) e = absurd b
-      go (steps w _) e = stepped (is-paged lay (setUp k p) m w) (step-way (setUp k p) (machineOf lay m)) e
-
--- any layout, any buffer, an accepted set-up with first page p, any calls after it of which none is an accepted set-up
-module _ (lay : Layout) (m : List ℕ) (k : Conf) (p : Page) (accepted : call lay (setUp k p) m .answer .code ≡ 0) (cs : List Call)
-    (meant : AllMeant (onBuffer lay) (call lay (setUp k p) m .buffer) cs) where
+-- any layout, any buffer, an accepted set-up with first page p, any calls after it up to the next
+module _ (lay : Layout) (m : List ℕ) (k : Conf) (p : Page) (cs : List Call) (r : Run lay m k p cs) where
   -- what the calls after it show
-  abbrev pub run : List Event
-  run = events (onBuffer lay) (call lay (setUp k p) m .buffer) cs
+  abbrev pub shown : List Event
+  shown = events (onBuffer lay) (call lay (setUp k p) m .buffer) cs
 
-  both : Proper run × OneLine p run
-  both = atomic-seen layered onMachine keeps p (machineOf lay) (onBuffer lay) (seen lay) (call lay (setUp k p) m .buffer) (begins lay m k p accepted) cs meant
+  both : Proper shown × OneLine p shown
+  both =
+      let made = call lay (setUp k p) m .buffer in
+      atomic-seen layered onMachine keeps p (machineOf lay) (onBuffer lay) (seen lay) made (begins lay m k p (r .begins)) cs (all-meant lay cs made (r .goes))
 
-  pub proper : Proper run
+  pub proper : Proper shown
   proper = both .0
 
-  pub in-one-line : OneLine p run
+  pub in-one-line : OneLine p shown
   in-one-line = both .1
 
   -- operation a had ended when read r began: a stands earlier in the line, and r shows the page of the last write between the two, or a's own where none is
-  pub never-older : (a r : Op) → a ∈ ops run → r ∈ ops run → EndedBefore a r → r .kind ≡ reading → Finished r
+  pub never-older : (a r : Op) → a ∈ ops shown → r ∈ ops shown → EndedBefore a r → r .kind ≡ reading → Finished r
       → (xs : List Op) × (ys : List Op) × (zs : List Op) × (in-one-line .line ≡ xs ++ a ∷ (ys ++ r ∷ zs)) × (r .page ≡ last-page (a .page) ys)
-  never-older = hours p run in-one-line
+  never-older = hours p shown in-one-line

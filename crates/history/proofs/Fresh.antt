@@ -4,14 +4,14 @@ use mathlib.Core.Bool.{true, not}
 use mathlib.Core.List.{map}
 use Prim.Native.Nat.{ℕ, zero, suc, _+_, _≤_, _<_}
 use native.Mathlib.Omega.{arith}
-use lib.Dec.{T, eqb, leb, eqb→eq, le→leb, nleb→lt}
-use lib.ListN.{length, getD}
+use lib.Dec.{T, leb, le→leb, nleb→lt}
+use lib.ListN.{getD}
 use Rattle.sets.specs.Plain.{numbers}
 use Rattle.sets.specs.declared.Tag.{Tag}
 use Rattle.sets.specs.Tags.{first}
 use Rattle.sets.specs.Sets.{size, all}
 use Rattle.sets.proofs.Laws.{all-in, all-lt, size-all}
-use Rattle.sets.proofs.Tests.{T-true, not-not, if-ind}
+use Rattle.sets.proofs.Tests.{if-ind}
 use Rattle.sets.proofs.TagOrder.{first-least}
 use Rattle.tables.specs.declared.Conf.{Conf}
 use Rattle.tables.specs.declared.Directory.{Directory}
@@ -23,9 +23,7 @@ use Rattle.inspect.specs.Good.{goodNumbers}
 use Rattle.inspect.proofs.Facts.{NumbersFacts, numbers-facts}
 use Rattle.rules.specs.Quorums.{enoughToWrite}
 use Rattle.rules.proofs.Covers.{Covers, held}
-use Rattle.machine.specs.Calls.{setUp}
-use Rattle.machine.specs.Steps.{firstDirectory, firstReplica, newMachine}
-use Rattle.machine.specs.Buffers.{wrongPage}
+use Rattle.machine.specs.SetUp.{firstDirectory, firstReplica, newMachine}
 use Rattle.runs.proofs.New.{new-sound}
 use Rattle.order.specs.Method.{idle, Fresh}
 use Rattle.mail.proofs.Messages.{all-from}
@@ -114,7 +112,3 @@ module _ (r : ℕ) (k : Conf) (p : Page) (g : goodNumbers r k ≡ true) where
         known = known;
         first = new-within (Ranked (λ t q. (t ≡ 0) × (q ≡ p))) (refl, refl);
       }
-
--- by the tests that an accepted set-up has passed
-pub fresh-by : (r : ℕ) (k : Conf) (p : Page) → T (not (not (goodNumbers r k))) → T (not (wrongPage (setUp k p))) → Fresh layered p (newMachine r k p)
-fresh-by r k p h w = fresh r k p (T-true (goodNumbers r k) (not-not (goodNumbers r k) h)) (eqb→eq (length p) 16 (not-not (eqb (length p) 16) w))

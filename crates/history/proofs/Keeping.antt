@@ -8,8 +8,9 @@ use Rattle.tables.specs.declared.Message.{Message}
 use Rattle.tables.specs.Tables.{Machine, noDirectory, noMessage, withSlots}
 use Rattle.tables.proofs.All.{All, all-map, all-withRow}
 use Rattle.mail.specs.Posts.{post, noPost, toReceiver}
-use Rattle.machine.specs.Effects.{Change, nothing, client, directory, replica, Effect, changed, applied}
-use Rattle.history.proofs.Rows.{row-ind, Sent, all-slots}
+use Rattle.machine.specs.Effects.{Change, nothing, client, directory, replica, anew, Effect, changed, applied}
+use Rattle.runs.proofs.Rows.{row-ind}
+use Rattle.history.proofs.Rows.{Sent, all-slots}
 use Rattle.history.proofs.Invariant.{Told, MessageOk, ClientOk, ReplicaOk, Invariant}
 use Rattle.history.proofs.Later.{Later, told-later, client-later, replica-later, message-later}
 
@@ -29,6 +30,7 @@ RowOk M nothing = Unit
 RowOk M (client c w) = ClientOk M w
 RowOk M (directory d w) = Told M (w .tag) (w .set)
 RowOk M (replica r w) = ReplicaOk M w
+RowOk M (anew k page) = ⊥
 
 module _ (M : Machine) (v : Invariant M) where
   rows-kept : (y : Change) (ss : List Message) → Later M (withSlots (changed y M) ss) → RowOk M y → All (MessageOk (withSlots (changed y M) ss)) ss
@@ -63,6 +65,7 @@ module _ (M : Machine) (v : Invariant M) where
         replicas = all-withRow r w (replica-later l w h) (all-map (replica-later l) (v .replicas));
         messages = ms;
       }
+  rows-kept (anew k page) ss l h ms = absurd h
 
   pub invariant-kept : (e : Effect) → Later M (applied e M) → RowOk M (e .change) → Sent (MessageOk (applied e M)) (e .post) → Invariant (applied e M)
   unfolding noMessage

@@ -23,9 +23,10 @@ use Rattle.rules.proofs.Every.{secured-tidied}
 use Rattle.rules.proofs.Heard.{heard-keeps}
 use Rattle.machine.specs.Effects.{Effect, applied}
 use Rattle.machine.specs.Calls.{Call, downed, downClient}
+use Rattle.runs.proofs.Acts.{Among, Acts, reads, writes, empties, directs, stores, hears, gossips, tidies, crashes, begun, directed, stored, answered}
 use Rattle.runs.proofs.Sound.{Sound}
-use Rattle.history.proofs.Shape.{Among, secured-in, client-set, directory-set, replica-set}
-use Rattle.history.proofs.Acts.{Acts, reads, writes, drops, directs, stores, hears, gossips, tidies, crashes, reports, begun, directed, stored, answered}
+use Rattle.runs.proofs.Kept.{arrives}
+use Rattle.history.proofs.Shape.{secured-in, client-set, directory-set, replica-set}
 use Rattle.history.proofs.Invariant.{Known, MessageOk, Invariant}
 use Rattle.history.proofs.Later.{settled, Moves, moves-not, Later, Moved, later}
 use Rattle.history.proofs.Keeping.{unsent, RowOk, invariant-kept}
@@ -76,16 +77,15 @@ module _ (M : Machine) where
   downs AReplica p = λ t k. k
 
   acts-move : {c : Call} {e : Effect} → Acts M c e → Moved M (e .change)
-  acts-move (reads c _ _) = further (clientAt M c) (started (clientAt M c) 1 noPage) (omega arith)
-  acts-move (writes c page _ _) = further (clientAt M c) (started (clientAt M c) 4 page) (omega arith)
-  acts-move (drops s page) = tt
+  acts-move (reads c _) = further (clientAt M c) (started (clientAt M c) 1 noPage) (omega arith)
+  acts-move (writes c page _) = further (clientAt M c) (started (clientAt M c) 4 page) (omega arith)
+  acts-move (empties c slots n _ _) = tt
   acts-move (directs s page _) = tag-rises (M .conf .f) (directoryAt M (slotAt M s .receiver)) (slotAt M s)
   acts-move (stores s page _ _) = λ t k. covers-after (replicaAt M (slotAt M s .receiver) .entries) (slotAt M s) t k
   acts-move (hears s page {o} _ _) = moves-after (clientAt M (slotAt M s .receiver)) (slotAt M s) o
-  acts-move (gossips from to _) = tt
-  acts-move (tidies r) = λ t k. covers-tidied (replicaAt M r .entries) t k
+  acts-move (gossips from to _ _) = tt
+  acts-move (tidies r _) = λ t k. covers-tidied (replicaAt M r .entries) t k
   acts-move (crashes kind id who _) = downs who id
-  acts-move reports = tt
 
   pub acts-later : {c : Call} {e : Effect} → Acts M c e → Later M (applied e M)
   acts-later {c} {e} a = later M e (acts-move a)
@@ -105,38 +105,39 @@ module _ (M : Machine) (z : Sound M) (v : Invariant M) where
   crash-ok AReplica p a = replica-ok v p
 
   pub invariant-acts : {c : Call} {e : Effect} → Acts M c e → Invariant (applied e M)
-  invariant-acts (reads c a q) =
+  invariant-acts (reads c o) =
       let h = read-starts M (applied (begun M c 1 noPage) M) c noPage in
-      invariant-kept M v (begun M c 1 noPage) (acts-later M (reads c a q)) (h .0) (h .1 (client-set M z c a (started (clientAt M c) 1 noPage)))
-  invariant-acts (writes c page a q) =
+      invariant-kept M v (begun M c 1 noPage) (acts-later M (reads c o)) (h .0) (h .1 (client-set M z c (o .client) (started (clientAt M c) 1 noPage)))
+  invariant-acts (writes c page o) =
       let h = write-starts M (applied (begun M c 4 page) M) c page in
-      invariant-kept M v (begun M c 4 page) (acts-later M (writes c page a q)) (h .0) (h .1 (client-set M z c a (started (clientAt M c) 4 page)))
-  invariant-acts {e = e} (drops s page) = invariant-kept M v e (acts-later M (drops s page)) tt (unsent (MessageOk (applied e M)))
+      invariant-kept M v (begun M c 4 page) (acts-later M (writes c page o)) (h .0) (h .1 (client-set M z c (o .client) (started (clientAt M c) 4 page)))
+  invariant-acts {e = e} (empties c slots n q h) = invariant-kept M v e (acts-later M (empties c slots n q h)) tt (unsent (MessageOk (applied e M)))
   invariant-acts (directs s page k) =
-      let x : Message = slotAt M s in
-      let h = v .directories (slotAt M s .receiver) (k .receiver .low) (k .receiver .high) in
+      let a = arrives z k .receiver in
+      let h = v .directories (slotAt M s .receiver) (a .low) (a .high) in
       let l = acts-later M (directs s page k) in
       invariant-kept M v (directed M s (slotAt M s) page) l (directory-ok M (slotAt M s) (message-ok v s) h)
       (directory-sends M (slotAt M s) (message-ok v s) h l
-      (directory-set M z (slotAt M s .receiver) (k .receiver) (directoryAfter (M .conf .f) (directoryAt M (slotAt M s .receiver)) (slotAt M s))))
+      (directory-set M z (slotAt M s .receiver) a (directoryAfter (M .conf .f) (directoryAt M (slotAt M s .receiver)) (slotAt M s))))
   invariant-acts (stores s page k n) =
+      let a = arrives z k .receiver in
       let es = replicaAt M (slotAt M s .receiver) .entries in
       let l = acts-later M (stores s page k n) in
       let ks = replica-ok v (slotAt M s .receiver) in
       invariant-kept M v (stored M s (slotAt M s) page) l (stored-ok M (slotAt M s) (message-ok v s) es ks)
       (replica-sends M (slotAt M s) (message-ok v s) es ks l refl
-      (ap (λ (r : Replica). r .entries) (replica-set M z (slotAt M s .receiver) (k .receiver) (record { down = replicaAt M (slotAt M s .receiver) .down; entries = replicaAfter es (slotAt M s) })))
-      (secured-in M z (slotAt M s .receiver) (k .receiver)) n (M .conf .directories))
+      (ap (λ (r : Replica). r .entries) (replica-set M z (slotAt M s .receiver) a (record { down = replicaAt M (slotAt M s .receiver) .down; entries = replicaAfter es (slotAt M s) })))
+      (secured-in M z (slotAt M s .receiver) a) n (M .conf .directories))
   invariant-acts (hears s page {o} k w) =
+      let a = arrives z k in
       let l = acts-later M (hears s page k w) in
-      let h = fine M z v (slotAt M s) (message-ok v s) (k .facts) (k .receiver) l w in
+      let h = fine M z v (slotAt M s) (message-ok v s) (a .facts) (a .receiver) l w in
       invariant-kept M v (answered M s (slotAt M s) page o) l (h .0)
-      (h .1 (client-set M z (slotAt M s .receiver) (k .receiver) (clientAfter (clientAt M (slotAt M s .receiver)) (slotAt M s) o)))
-  invariant-acts {e = e} (gossips from to a) =
-      let l = acts-later M (gossips from to a) in
+      (h .1 (client-set M z (slotAt M s .receiver) (a .receiver) (clientAfter (clientAt M (slotAt M s .receiver)) (slotAt M s) o)))
+  invariant-acts {e = e} (gossips from to a b) =
+      let l = acts-later M (gossips from to a b) in
       invariant-kept M v e l tt (gossip-sends l (replicaAt M from .entries) (replica-ok v from) (secured-in M z from a) from to)
-  invariant-acts {e = e} (tidies r) =
-      invariant-kept M v e (acts-later M (tidies r)) (secured-tidied (Known M) (replica-ok v r)) (unsent (MessageOk (applied e M)))
+  invariant-acts {e = e} (tidies r a) =
+      invariant-kept M v e (acts-later M (tidies r a)) (secured-tidied (Known M) (replica-ok v r)) (unsent (MessageOk (applied e M)))
   invariant-acts {e = e} (crashes kind id who a) =
       invariant-kept M v e (acts-later M (crashes kind id who a)) (crash-ok who id a) (unsent (MessageOk (applied e M)))
-  invariant-acts {e = e} reports = invariant-kept M v e (acts-later M reports) tt (unsent (MessageOk (applied e M)))

@@ -1,30 +1,22 @@
 -- What never falls in a machine, and that every fact of the invariant then stays.
-use mathlib.Core.Path.{_≡_, refl, sym, subst}
+use mathlib.Core.Path.{_≡_, refl, sym}
 use mathlib.Core.Bool.{Bool, true, false, not, _||_}
 use mathlib.Core.List.{List, [], _∷_}
-use mathlib.Core.Logic.{⊎-elim}
 use Prim.Native.Nat.{ℕ, _≤_}
 use native.Mathlib.Nat.{le-refl, le-trans}
-use lib.Dec.{T, eqb, eqb→eq}
+use lib.Dec.{T, eqb}
 use Rattle.sets.specs.Plain.{oneOf}
 use Rattle.sets.specs.declared.Tag.{Tag}
-use Rattle.sets.proofs.Tests.{or-elim}
 use Rattle.sets.proofs.TagOrder.{_≼_, ≼-refl, ≼-trans}
 use Rattle.tables.specs.declared.Client.{Client}
 use Rattle.tables.specs.declared.Message.{Message}
 use Rattle.tables.specs.Tables.{Replica, Machine, noClient, noDirectory, noReplica, clientAt, directoryAt, withSlots}
 use Rattle.tables.proofs.All.{All, none, cons, all-map}
 use Rattle.rules.proofs.Covers.{Covers}
-use Rattle.machine.specs.Effects.{Change, nothing, client, directory, replica, Effect, changed, applied}
-use Rattle.history.proofs.Rows.{row-ind}
+use Rattle.machine.specs.Effects.{Change, nothing, client, directory, replica, anew, Effect, changed, applied}
+use Rattle.runs.proofs.Codes.{one-of}
+use Rattle.runs.proofs.Rows.{row-ind}
 use Rattle.history.proofs.Invariant.{ifT, CoversAt, Told, Reached, Known, Stands, Past, While, Fact, MessageOk, Gathering, unheard, gathered, PhaseFact, ClientOk, ReplicaOk}
-
--- what holds at each number of a list holds at a number that is one of them
-pub one-of : (P : ℕ → Type 0) (k : ℕ) (l : List ℕ) → All P l → T (oneOf k l) → P k
-one-of P k [] none h = absurd h
-one-of P k (a ∷ []) (cons p none) h = subst P (sym (eqb→eq k a h)) p
-one-of P k (a ∷ b ∷ l) (cons p ps) h =
-    ⊎-elim (λ e. subst P (sym (eqb→eq k a e)) p) (λ r. one-of P k (b ∷ l) ps r) (or-elim (eqb k a) (oneOf k (b ∷ l)) h)
 
 -- the replies to clients
 abbrev pub isReply : ℕ → Bool
@@ -69,6 +61,7 @@ Moved M nothing = Unit
 Moved M (client c w) = Moves (clientAt M c) w
 Moved M (directory d w) = directoryAt M d .tag ≼ w .tag
 Moved M (replica r w) = (t : Tag) → CoversAt M r t → Covers (w .entries) t
+Moved M (anew k page) = ⊥
 
 pub later : (M : Machine) (e : Effect) → Moved M (e .change) → Later M (applied e M)
 later M e h = go (e .change) (applied e M .slots) h
@@ -99,6 +92,7 @@ later M e h = go (e .change) (applied e M .slots) h
           directories = same .directories;
           replicas = λ r t k. row-ind (λ v. Covers (v .entries) t) noReplica (M .replicas) a r w (λ e. g t (rw (sym e) at k)) k;
         }
+    go (anew k page) ss g = absurd g
 
 -- ---- the facts stay
 

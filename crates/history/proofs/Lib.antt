@@ -1,7 +1,6 @@
 -- The layered machine keeps to the method, from its invariant up. Final has the theorems; the rest may change freely.
 pub mod Rows
 pub mod Shape
-pub mod Acts
 pub mod Invariant
 pub mod Later
 pub mod Keeping

@@ -28,13 +28,15 @@ use Rattle.rules.proofs.Heard.{heard-keeps}
 use Rattle.rules.proofs.Changes.{tag-has}
 use Rattle.rules.proofs.Covers.{entryWith-has, highest-there}
 use Rattle.rules.proofs.Every.{all-after, all-tidied, all-entryWith}
-use Rattle.machine.specs.Effects.{Change, nothing, client, directory, replica, Effect, changed, applied}
+use Rattle.machine.specs.Effects.{Change, nothing, client, directory, replica, anew, Effect, changed, applied}
 use Rattle.machine.specs.Calls.{Call, downed}
+use Rattle.runs.proofs.Acts.{Acts, reads, writes, empties, directs, stores, hears, gossips, tidies, crashes}
 use Rattle.runs.proofs.Sound.{Sound}
+use Rattle.runs.proofs.Codes.{one-of}
 use Rattle.history.proofs.Rows.{OfClient, Sent, all-slots}
+use Rattle.runs.proofs.Kept.{arrives}
 use Rattle.history.proofs.Shape.{secured-in}
-use Rattle.history.proofs.Acts.{Acts, reads, writes, drops, directs, stores, hears, gossips, tidies, crashes, reports}
-use Rattle.history.proofs.Later.{one-of, settled}
+use Rattle.history.proofs.Later.{settled}
 use Rattle.history.proofs.Keeping.{unsent}
 use Rattle.history.proofs.Clients.{heard-settled}
 
@@ -128,6 +130,7 @@ module _ (H : Tag → Page → Type 0) where
   StoreIn (client c w) = Unit
   StoreIn (directory d w) = Unit
   StoreIn (replica r w) = EntriesIn w
+  StoreIn (anew k page) = ⊥
 
   module _ (M : Machine) (v : Within M) where
     replica-row : (r : ℕ) → EntriesIn (replicaAt M r)
@@ -147,6 +150,7 @@ module _ (H : Tag → Page → Type 0) where
     rows-in (client c w) ss h k ms = record { clients = all-withRow c w h (v .clients); replicas = v .replicas; messages = ms }
     rows-in (directory d w) ss h k ms = record { clients = v .clients; replicas = v .replicas; messages = ms }
     rows-in (replica r w) ss h k ms = record { clients = v .clients; replicas = all-withRow r w k (v .replicas); messages = ms }
+    rows-in (anew k page) ss h _ ms = absurd h
 
     downs-in : (who : Party) (p : ℕ) → StoreIn (downed M who p)
     downs-in Nobody p = tt
@@ -156,32 +160,30 @@ module _ (H : Tag → Page → Type 0) where
 
     store-in : {c : Call} {e : Effect} → Acts M c e → StoreIn (e .change)
     unfolding noEntry
-    store-in (reads c _ _) = tt
-    store-in (writes c page _ _) = tt
-    store-in (drops s page) = tt
+    store-in (reads c _) = tt
+    store-in (writes c page _) = tt
+    store-in (empties c slots n _ _) = tt
     store-in (directs s page _) = tt
     store-in (stores s page _ _) = after-in (replicaAt M (slotAt M s .receiver) .entries) (slotAt M s) (message-row s) (replica-row (slotAt M s .receiver))
     store-in (hears s page _ _) = tt
-    store-in (gossips from to _) = tt
-    store-in (tidies r) = all-tidied (λ k. absurd k) (replica-row r)
+    store-in (gossips from to _ _) = tt
+    store-in (tidies r _) = all-tidied (λ k. absurd k) (replica-row r)
     store-in (crashes kind id who _) = downs-in who id
-    store-in reports = tt
 
     sends-in : Sound M → {c : Call} {e : Effect} → Acts M c e → RowIn (e .change) → P (e .post)
     unfolding gossipPost
-    sends-in z (reads c _ _) h = request-in (M .conf) c _ h
-    sends-in z (writes c page _ _) h = request-in (M .conf) c _ h
-    sends-in z (drops s page) h = unsent MessageIn
+    sends-in z (reads c _) h = request-in (M .conf) c _ h
+    sends-in z (writes c page _) h = request-in (M .conf) c _ h
+    sends-in z (empties c slots n _ _) h = unsent MessageIn
     sends-in z (directs s page _) h = directory-in (directoryAt M (slotAt M s .receiver)) (slotAt M s)
     sends-in z (stores s page k _) h =
         replica-in (M .conf .directories) (replicaAt M (slotAt M s .receiver) .entries) (slotAt M s) (replica-row (slotAt M s .receiver))
-        (secured-in M z (slotAt M s .receiver) (k .receiver))
+        (secured-in M z (slotAt M s .receiver) (arrives z k .receiver))
     sends-in z (hears s page {o} _ _) h = client-in (M .conf) (slotAt M s .receiver) (clientAt M (slotAt M s .receiver)) _ o h
-    sends-in z (gossips from to a) h =
+    sends-in z (gossips from to a _) h =
         λ p k _. entryWith-in (highest (replicaAt M from .entries)) (replicaAt M from .entries) (replica-row from) (highest-there (replicaAt M from .entries) (secured-in M z from a))
-    sends-in z (tidies r) h = unsent MessageIn
+    sends-in z (tidies r _) h = unsent MessageIn
     sends-in z (crashes kind id who _) h = unsent MessageIn
-    sends-in z reports h = unsent MessageIn
 
     -- every accepted call, if it holds of the changed row
     pub within-acts : Sound M → {c : Call} {e : Effect} → Acts M c e → RowIn (e .change) → Within (applied e M)

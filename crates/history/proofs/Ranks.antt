@@ -17,7 +17,8 @@ use Rattle.tables.proofs.All.{none, cons}
 use Rattle.rules.specs.Client.{heard}
 use Rattle.rules.proofs.Heard.{heard-keeps}
 use Rattle.order.specs.Method.{Stand, idle, reads, asks, writes}
-use Rattle.history.proofs.Later.{one-of, settled}
+use Rattle.runs.proofs.Codes.{one-of}
+use Rattle.history.proofs.Later.{settled}
 use Rattle.history.proofs.Clients.{heard-settled}
 
 -- clients are below 16

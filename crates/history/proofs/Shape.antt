@@ -1,26 +1,17 @@
 -- What a sound machine says of the rows of its parties.
 use mathlib.Core.Path.{_≡_}
-use Prim.Native.Nat.{ℕ, _≤_}
+use Prim.Native.Nat.{ℕ}
 use native.Mathlib.Omega.{arith}
-use lib.Dec.{T, leb, leb→le}
-use Rattle.sets.proofs.Tests.{true-T, and-elim}
+use lib.Dec.{T}
+use Rattle.sets.proofs.Tests.{true-T}
 use Rattle.tables.specs.declared.Client.{Client}
 use Rattle.tables.specs.declared.Directory.{Directory}
 use Rattle.tables.specs.Rows.{some?}
 use Rattle.tables.specs.Tables.{Replica, Machine, noClient, noDirectory, noReplica, clientAt, directoryAt, replicaAt, isSecured, withClient, withDirectory, withReplica}
-use Rattle.inspect.specs.Good.{between}
 use Rattle.inspect.proofs.Facts.{ClientFacts, client-facts, replica-facts}
+use Rattle.runs.proofs.Acts.{Among}
 use Rattle.runs.proofs.Sound.{Sound}
-use Rattle.runs.proofs.Rows.{numbers-of, client-of, replica-of}
-use Rattle.history.proofs.Rows.{row-same}
-
--- party p of n
-pub record Among (n p : ℕ) : Type 0 where
-  pub low : 1 ≤ p
-  pub high : p ≤ n
-
-pub among : (n p : ℕ) → T (between 1 n p) → Among n p
-among n p h = let q = and-elim (leb 1 p) (leb p n) h in record { low = leb→le 1 p (q .0); high = leb→le p n (q .1) }
+use Rattle.runs.proofs.Rows.{row-same, numbers-of, client-of, replica-of}
 
 module _ (M : Machine) (z : Sound M) (p : ℕ) where
   pub client-in : Among (M .conf .clients) p → ClientFacts (M .conf) (clientAt M p)

@@ -31,10 +31,11 @@ use Rattle.rules.proofs.Heard.{heard-keeps, heard-answered, heard-over}
 use Rattle.rules.proofs.Views.{Timely}
 use Rattle.machine.specs.Effects.{Effect, applied}
 use Rattle.machine.specs.Calls.{Call}
+use Rattle.runs.proofs.Codes.{one-of}
+use Rattle.runs.proofs.Acts.{Acts, reads, writes, empties, directs, stores, hears, gossips, tidies, crashes}
 use Rattle.history.proofs.Rows.{Sent, all-slots}
-use Rattle.history.proofs.Acts.{Acts, reads, writes, drops, directs, stores, hears, gossips, tidies, crashes, reports}
 use Rattle.history.proofs.Invariant.{ifT, Reached, Known, MessageOk, Invariant}
-use Rattle.history.proofs.Later.{one-of, isReply, reply-past, settled, Later, ifT-with, ifT-map, reached-later}
+use Rattle.history.proofs.Later.{isReply, reply-past, settled, Later, ifT-with, ifT-map, reached-later}
 use Rattle.history.proofs.Keeping.{unsent}
 use Rattle.history.proofs.Clients.{heard-settled}
 
@@ -113,16 +114,15 @@ module _ (c n q : ℕ) (F : Tag) where
 
   counts : {M : Machine} {a : Call} {e : Effect} → Acts M a e → Reached M F q → P (e .post)
   unfolding gossipPost
-  counts {M} (reads d _ _) r = count-request (M .conf) d _
-  counts {M} (writes d page _ _) r = count-request (M .conf) d _
-  counts (drops s page) r = unsent C
+  counts {M} (reads d _) r = count-request (M .conf) d _
+  counts {M} (writes d page _) r = count-request (M .conf) d _
+  counts (empties c slots n _ _) r = unsent C
   counts {M} (directs s page _) r = count-directory M (slotAt M s) r
   counts {M} (stores s page _ _) r = count-replica (M .conf .directories) (replicaAt M (slotAt M s .receiver) .entries) (slotAt M s)
   counts {M} (hears s page {o} _ _) r = count-client (M .conf) (slotAt M s .receiver) (clientAt M (slotAt M s .receiver)) _ o
-  counts (gossips from to _) r = λ p h z. absurd z
-  counts (tidies s) r = unsent C
+  counts (gossips from to _ _) r = λ p h z. absurd z
+  counts (tidies s _) r = unsent C
   counts (crashes kind id who _) r = unsent C
-  counts reports r = unsent C
 
 -- ---- a row that stays
 

@@ -11,12 +11,14 @@ use Rattle.sets.specs.Tags.{tag}
 use Rattle.sets.proofs.TagOrder.{_≼_, _≺_, ≼-trans}
 use Rattle.tables.specs.declared.Client.{Client}
 use Rattle.tables.specs.declared.Message.{Message}
-use Rattle.tables.specs.declared.Party.the-variants.{ADirectory}
+use Rattle.tables.specs.declared.Party.the-variants.{AClient, ADirectory}
 use Rattle.tables.specs.Kinds.{senderOf, carriesPage}
 use Rattle.tables.specs.Phases.{asksDirectories}
 use Rattle.tables.specs.Tables.{Page, Machine, noPage, clientAt, slotAt}
+use Rattle.tables.proofs.All.{none, cons}
 use Rattle.rules.specs.declared.Outcome.{Outcome}
 use Rattle.rules.specs.declared.Outcome.the-variants.{Next, ReadEnded, WriteEnded, Spent}
+use Rattle.rules.specs.Answers.{coded}
 use Rattle.rules.specs.Quorums.{enoughToRead}
 use Rattle.rules.specs.Client.{awaited, enoughFor, heard, moved, started, clientAfter}
 use Rattle.rules.proofs.Heard.{heard-keeps}
@@ -25,15 +27,17 @@ use Rattle.machine.specs.Effects.{Effect, applied}
 use Rattle.machine.specs.Calls.{Call, deliver}
 use Rattle.machine.specs.Steps.{step}
 use Rattle.machine.specs.Buffers.{wrongPage}
+use Rattle.runs.specs.Runs.{Renews}
+use Rattle.runs.proofs.Codes.{one-of}
+use Rattle.runs.proofs.Acts.{Acts, reads as startsRead, writes as startsWrite, empties, directs, stores, hears, gossips, tidies, crashes, answered}
 use Rattle.runs.proofs.Sound.{Sound}
 use Rattle.runs.proofs.Rows.{numbers-of}
-use Rattle.runs.proofs.Reached.{step-sound}
+use Rattle.runs.proofs.Kept.{Arrives, arrives, step-sound}
 use Rattle.order.specs.Run.{Event, nothing, Calls}
 use Rattle.order.specs.Method.{writes, Method, Others, Does, quietly, readBegins, writeBegins, chooses, readEnds, writeEnds, spends, never-gives-up, KeepsTo}
-use Rattle.history.specs.Show.{eventOf, Renews}
+use Rattle.history.specs.Show.{beginning, eventOf}
 use Rattle.history.proofs.Rows.{OfClient, of-map, of-downed, each-client}
 use Rattle.history.proofs.Shape.{client-in, client-set}
-use Rattle.history.proofs.Acts.{Comes, Acts, reads as startsRead, writes as startsWrite, drops, directs, stores, hears, gossips, tidies, crashes, reports, answered}
 use Rattle.history.proofs.Invariant.{Known, Fact, Invariant}
 use Rattle.history.proofs.Later.{Later, known-later}
 use Rattle.history.proofs.Clients.{present, awaited-fact, atPhase, heard-phase, asked-in, ended-known}
@@ -96,7 +100,7 @@ module _ (M : Machine) (G : Good M) where
 
   -- ---- a reply at a client
 
-  module _ (s : ℕ) (page : Page) (m : Comes M (M .conf .clients) s) where
+  module _ (s : ℕ) (page : Page) (m : Arrives M AClient s) where
     abbrev x : Message
     x = slotAt M s
 
@@ -201,47 +205,48 @@ module _ (M : Machine) (G : Good M) where
 
   acts-does : {a : Call} {e : Effect} → Acts M a e → Does layered M (applied e M) (eventOf a (e .answer) (e .page))
   unfolding eventOf
-  acts-does (startsRead c a q) =
-      let k = startsRead c a q in
-      let n = client-set M (G .sound) c a (started (clientAt M c) 1 noPage) in
-      readBegins c (stand-at c 0 q) (ap standOf n)
+  acts-does (startsRead c o) =
+      let k = startsRead c o in
+      let n = client-set M (G .sound) c (o .client) (started (clientAt M c) 1 noPage) in
+      readBegins c (stand-at c 0 (o .idle)) (ap standOf n)
       (λ r h. subst (TrackOf (N k) c (tagOf r)) (sym n) (new-asking M k (l k) c (tagOf r) (G .invariant) h)) (others k c refl) (carry k (λ H v z. absurd z))
-  acts-does (startsWrite c page a q) =
-      let k = startsWrite c page a q in
-      let n = client-set M (G .sound) c a (started (clientAt M c) 4 page) in
-      writeBegins c page (stand-at c 0 q) (ap standOf n)
+  acts-does (startsWrite c page o) =
+      let k = startsWrite c page o in
+      let n = client-set M (G .sound) c (o .client) (started (clientAt M c) 4 page) in
+      writeBegins c page (stand-at c 0 (o .idle)) (ap standOf n)
       (λ r h. subst (TrackOf (N k) c (tagOf r)) (sym n) (new-asking M k (l k) c (tagOf r) (G .invariant) h)) (others k c refl) (carry k (λ H v z. absurd z))
-  acts-does (drops s page) = quiet (drops s page) tt (λ H v. tt)
+  acts-does {e = e} (empties c slots n q h) =
+      subst (Does layered M (applied e M)) (sym (one-of (λ (k : ℕ). eventOf c (coded k) (e .page) ≡ nothing) n (0 ∷ 4 ∷ []) (cons (ap beginning h) (cons refl none)) q))
+      (quiet (empties c slots n q h) tt (λ H v. tt))
   acts-does (directs s page m) = quiet (directs s page m) tt (λ H v. tt)
   acts-does (stores s page m n) = quiet (stores s page m n) tt (λ H v. tt)
-  acts-does (hears s page m i) = hear s page m i (hears s page m i)
-  acts-does (gossips from to a) = quiet (gossips from to a) tt (λ H v. tt)
-  acts-does (tidies r) = quiet (tidies r) tt (λ H v. tt)
+  acts-does (hears s page m i) = hear s page (arrives (G .sound) m) i (hears s page m i)
+  acts-does (gossips from to a b) = quiet (gossips from to a b) tt (λ H v. tt)
+  acts-does (tidies r a) = quiet (tidies r a) tt (λ H v. tt)
   acts-does (crashes kind id who a) =
       let k = crashes kind id who a in
       quiet k (of-downed (Goes k) M who id (same k id))
       (λ H v. of-downed (λ c w. ClientIn (Ranked H) w) M who id (client-row (Ranked H) M v id))
-  acts-does reports = quiet reports tt (λ H v. tt)
 
 -- ---- the machine
 
 module _ (M : Machine) (c : Call) (G : Good M) (n : Renews c (step c M .answer) → ⊥) where
   step-invariant : Invariant (step c M .machine)
-  step-invariant = go (way M (G .sound) c n)
+  step-invariant = go (way M c n)
     where
       go : {N : Machine} {v : Event} → Way M c N v → Invariant N
       go stays = G .invariant
       go (goes k) = invariant-acts M (G .sound) (G .invariant) k
 
   step-known : (t : Tag) → Known M t → Known (step c M .machine) t
-  step-known t h = go (way M (G .sound) c n)
+  step-known t h = go (way M c n)
     where
       go : {N : Machine} {v : Event} → Way M c N v → Known N t
       go stays = h
       go (goes k) = known-later (acts-later M k) h
 
   step-does : Does layered M (step c M .machine) (eventOf c (step c M .answer) (step c M .page))
-  step-does = go (way M (G .sound) c n)
+  step-does = go (way M c n)
     where
       go : {N : Machine} {v : Event} → Way M c N v → Does layered M N v
       go stays = quietly (λ c. (refl, λ t h. h)) (λ H v. v)

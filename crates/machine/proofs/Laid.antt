@@ -29,7 +29,7 @@ use Rattle.tables.proofs.Read.{its-room, its-replicas}
 use Rattle.tables.proofs.Whole.{Paged, Whole, Room, blank-client, blank-message, blank-replica, whole-directory, whole-entry}
 use Rattle.tables.proofs.Holds.{Holds, holds-length, holds-machine, holds-rest, holds-step}
 use Rattle.rules.specs.Replica.{entry}
-use Rattle.machine.specs.Steps.{newMachine}
+use Rattle.machine.specs.SetUp.{newMachine}
 use Rattle.machine.specs.Inner.{blank, firstRows, withFirst, withDirectories, withReplicas}
 
 -- ---- the words zeroed

@@ -122,7 +122,7 @@ module _ {lay : Layout} {who : Party} {m : List ℕ} {s : ℕ} {x : Message} (g 
     lands a p l w q = go (hasRoom (machineOf lay m) y) coded-by (w .answer) (w .buffer) q
       where
         go : (b : Bool) → refusal (deliver (suc s) page) (machineOf lay m) (effectOf (deliver (suc s) page) (machineOf lay m)) ≡ (if not b then 24 else 0) → a ≡ (if b then a₀ else coded 24)
-            → l ≡ (if b then words (withSlots (changed ch (machineOf lay m)) (placed (messagesOf y) (set (machineOf lay m .slots) s noMessage))) (drop (extent lay) m) else m)
+            → l ≡ (if b then words (withSlots (changed ch (machineOf lay m)) (placed (messagesOf y) (set (changed ch (machineOf lay m) .slots) s noMessage))) (drop (extent lay) m) else m)
             → p ≡ (if b then p₀ else page) → Took lay (step (deliver (suc s) page) (machineOf lay m)) a p m l
         go true r h k q = took-accepted lay (deliver (suc s) page) m l p a r (rw e h) (rw e q) (rw e k)
         go false r h k q = rw (q, k) (took-refused lay (deliver (suc s) page) m 24 a (g .long) (λ z. omega arith) r h)

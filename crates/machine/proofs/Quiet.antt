@@ -7,7 +7,7 @@ use Rattle.tables.specs.Tables.{Machine}
 use Rattle.mail.specs.Posts.{noPost}
 use Rattle.mail.specs.Slots.{emptySlots}
 use Rattle.mail.proofs.Messages.{no-messages}
-use Rattle.machine.specs.Effects.{Change, nothing, client, directory, replica, changed, applied}
+use Rattle.machine.specs.Effects.{Change, nothing, client, directory, replica, anew, changed, applied}
 use Rattle.machine.specs.Calls.{done}
 use Rattle.machine.specs.Refusals.{noSlot}
 
@@ -19,3 +19,4 @@ quiet-applied M nothing = rw no-messages
 quiet-applied M (client c w) = rw no-messages
 quiet-applied M (directory d w) = rw no-messages
 quiet-applied M (replica r w) = rw no-messages
+quiet-applied M (anew k page) = rw no-messages

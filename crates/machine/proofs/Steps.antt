@@ -19,19 +19,18 @@ use Rattle.tables.proofs.Round.{words-back}
 use Rattle.inspect.specs.Good.{good}
 use Rattle.rules.specs.declared.Answer.{Answer}
 use Rattle.rules.specs.Answers.{coded}
-use Rattle.machine.specs.Effects.{Effect}
-use Rattle.machine.specs.Calls.{Call}
+use Rattle.machine.specs.Calls.{Call, asks}
 use Rattle.machine.specs.Refusals.{refusal}
-use Rattle.machine.specs.Steps.{Result, refused, effectOf, pageIn, accepted, step}
+use Rattle.machine.specs.Steps.{Result, effectOf, refused, accepted, step}
 use Rattle.machine.specs.Buffers.{wrongPage, isSetUp, left, call, Gives}
 use Rattle.machine.specs.Inner.{stateOf, Ready, Took}
 
 module _ (c : Call) (M : Machine) where
-  -- what an accepted call leads to
+  -- what the call leads to where it is accepted
   abbrev pub taken : Result
-  taken = let e : Effect = effectOf c M in record { answer = e .answer; page = e .page; machine = accepted c M e }
+  taken = accepted (effectOf c M) M
 
-  step-refused : (code : ℕ) → (code ≡ 0 → ⊥) → refusal c M (effectOf c M) ≡ code → step c M ≡ refused code (pageIn c) M
+  step-refused : (code : ℕ) → (code ≡ 0 → ⊥) → refusal c M (effectOf c M) ≡ code → step c M ≡ refused code (asks c .fill) M
   unfolding step
   step-refused code z e = rw (e, ne-eqb code 0 z)
 
@@ -44,9 +43,9 @@ pub took-nothing : (lay : Layout) (m p : List ℕ) (code : ℕ) (a : Answer) →
 took-nothing lay m p code a l h = record { answer = h; page = refl; buffer = sym (words-back lay m (l .long)) }
 
 pub took-refused : (lay : Layout) (c : Call) (m : List ℕ) (code : ℕ) (a : Answer) → Fits lay m → (code ≡ 0 → ⊥)
-    → refusal c (machineOf lay m) (effectOf c (machineOf lay m)) ≡ code → a ≡ coded code → Took lay (step c (machineOf lay m)) a (pageIn c) m m
+    → refusal c (machineOf lay m) (effectOf c (machineOf lay m)) ≡ code → a ≡ coded code → Took lay (step c (machineOf lay m)) a (asks c .fill) m m
 took-refused lay c m code a l z e h =
-    rw (step-refused c (machineOf lay m) code z e) (took-nothing lay m (pageIn c) code a l h)
+    rw (step-refused c (machineOf lay m) code z e) (took-nothing lay m (asks c .fill) code a l h)
 
 pub took-accepted : (lay : Layout) (c : Call) (m n p : List ℕ) (a : Answer) → refusal c (machineOf lay m) (effectOf c (machineOf lay m)) ≡ 0
     → a ≡ taken c (machineOf lay m) .answer → p ≡ taken c (machineOf lay m) .page → n ≡ words (taken c (machineOf lay m) .machine) (drop (extent lay) m)
@@ -84,12 +83,12 @@ module _ (lay : Layout) (m : List ℕ) (n s : ℕ) (e : s ≡ stateOf lay m n) w
   is-sixteen z = page-whole lay m n (extent lay) refl (both z .0)
 
   module _ (c : Call) (w : wrongPage c ≡ not (eqb n 16)) (k : not (isSetUp c) ≡ true) where
-    pub call-refused : (a : Answer) (p : List ℕ) → pageIn c ≡ p → (s ≡ 0 → ⊥) → a ≡ coded s → Gives (call lay c m) a p m
+    pub call-refused : (a : Answer) (p : List ℕ) → asks c .fill ≡ p → (s ≡ 0 → ⊥) → a ≡ coded s → Gives (call lay c m) a p m
     unfolding call stateOf
     call-refused a p x z h = rw (w, k) (go (ltb (length m) (extent lay) || not (eqb n 16)) (good lay m) e)
       where
         go : (b g : Bool) → s ≡ (if b then 16 else if not g then 17 else 0)
-            → Gives (if b then left (coded 16) (pageIn c) m else if not g then left (coded 17) (pageIn c) m else left (step c (machineOf lay m) .answer) (step c (machineOf lay m) .page) (words (step c (machineOf lay m) .machine) (drop (extent lay) m)))
+            → Gives (if b then left (coded 16) (asks c .fill) m else if not g then left (coded 17) (asks c .fill) m else left (step c (machineOf lay m) .answer) (step c (machineOf lay m) .page) (words (step c (machineOf lay m) .machine) (drop (extent lay) m)))
             a p m
         go true g q = record { answer = h ∙ ap coded q; page = sym x; buffer = refl }
         go false false q = record { answer = h ∙ ap coded q; page = sym x; buffer = refl }

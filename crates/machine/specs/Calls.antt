@@ -1,5 +1,6 @@
--- The calls, and the effect of each but deliver and set-up.
-use Rattle.sets.specs.Plain.{Bool, ℕ, eqb, [], if_then_else_}
+-- The calls, what each asks for, and the effect of each but deliver.
+use mathlib.Core.Option.{Option, none, some}
+use Rattle.sets.specs.Plain.{Bool, true, false, ℕ, eqb, [], if_then_else_}
 use Rattle.tables.specs.declared.Conf.{Conf}
 use Rattle.tables.specs.declared.Client.{Client}
 use Rattle.tables.specs.declared.Directory.{Directory}
@@ -22,6 +23,52 @@ pub data Call : Type 0 where
   tidy : ℕ → Call
   crash : ℕ → ℕ → Call
   report : Call
+
+-- ---- what a call asks for
+
+-- a party's kind: 1 client, 2 directory, 3 replica
+unfoldable pub partyOf : ℕ → Party
+partyOf kind =
+    if eqb kind 1 then AClient
+    else if eqb kind 2 then ADirectory
+    else if eqb kind 3 then AReplica
+    else Nobody
+
+-- an operation of a client
+pub data Start : Type 0 where
+  read : ℕ → Start
+  write : ℕ → Page → Start
+
+abbrev pub starter : Start → ℕ
+starter (read c) = c
+starter (write c page) = c
+
+pub record Asks : Type 0 where
+  pub anew : Bool  -- whether it makes the machine anew
+  pub page : Option Page  -- the page that it brings
+  pub fill : Page  -- the page to fill, as it was
+  pub up : Option (Party × ℕ)  -- who must be up
+  pub start : Option Start  -- what it starts
+  pub slot : Option ℕ  -- the slot that must have a message
+  pub delivered : Option ℕ  -- the slot whose message is delivered
+
+-- one row of the paper's table a call
+abbrev pub asks : Call → Asks
+asks (setUp k page) = record { anew = true; page = some page; fill = []; up = none; start = none; slot = none; delivered = none }
+asks (startRead c) = record { anew = false; page = none; fill = []; up = some (AClient, c); start = some (read c); slot = none; delivered = none }
+asks (startWrite c page) = record { anew = false; page = some page; fill = []; up = some (AClient, c); start = some (write c page); slot = none; delivered = none }
+asks (deliver s page) = record { anew = false; page = some page; fill = page; up = none; start = none; slot = some s; delivered = some s }
+asks (gossip from to) = record { anew = false; page = none; fill = []; up = some (AReplica, from); start = none; slot = none; delivered = none }
+asks (tidy r) = record { anew = false; page = none; fill = []; up = some (AReplica, r); start = none; slot = none; delivered = none }
+asks (crash kind id) = record { anew = false; page = none; fill = []; up = some (partyOf kind, id); start = none; slot = none; delivered = none }
+asks report = record { anew = false; page = none; fill = []; up = none; start = none; slot = none; delivered = none }
+
+-- the test holds of what is asked for
+abbrev pub asked : {A : Type 0} → (A → Bool) → Option A → Bool
+asked test none = false
+asked test (some a) = test a
+
+-- ---- effects
 
 -- the party of a kind that a number names is down
 abbrev pub downWord : Machine → Party → ℕ → ℕ
@@ -52,13 +99,6 @@ tidyEffect M r =
     done (replica r (record { down = w .down; entries = tidied (w .entries) })) noPost
 
 -- "Crash of a party (1 client, 2 directory, 3 replica): down becomes 1. Its waiting messages stay."
-unfoldable pub partyOf : ℕ → Party
-partyOf kind =
-    if eqb kind 1 then AClient
-    else if eqb kind 2 then ADirectory
-    else if eqb kind 3 then AReplica
-    else Nobody
-
 abbrev pub downClient : Client → Client
 downClient w =
     record { down = 1; phase = w .phase; number = w .number; answered = w .answered; replicas = w .replicas; tag = w .tag; spare = w .spare; page = w .page }

@@ -29,9 +29,9 @@ use Rattle.rules.specs.declared.Outcome.{Outcome}
 use Rattle.rules.specs.Client.{clientAfter, clientPost, request}
 use Rattle.rules.specs.Inner.{Sender, AfterAble, Few}
 use Rattle.mail.specs.Slots.{placed, emptySlots}
-use Rattle.machine.specs.Effects.{Change, changed, Effect, client, applied}
+use Rattle.machine.specs.Effects.{Change, changed, Effect, client}
 use Rattle.machine.specs.Calls.{deliver, startRead, done, startEffect}
-use Rattle.machine.specs.Steps.{Result, step, refused, waiting, partiesDown}
+use Rattle.machine.specs.Steps.{Result, refused, accepted, step, waiting, partiesDown}
 use Rattle.tables.specs.declared.Directory.{Directory}
 use Rattle.tables.specs.Rows.{withRow}
 use Rattle.tables.specs.Phases.{isIdle}
@@ -142,8 +142,7 @@ standing k w =
 unfoldable pub launchStep : Machine → Conf → ℕ → Client → Result
 launchStep M k c y =
     let e : Effect = done (client c y) (request k c y) in
-    if noSlot M e then refused 24 [] M
-    else record { answer = coded 0; page = []; machine = applied e M }
+    if noSlot M e then refused 24 [] M else accepted e M
 
 pub record Launches (lay : Layout) (m : List ℕ) (k : Conf) (c : ℕ) (y : Client) : Type 0 where
   pub ready : Ready lay m
@@ -157,8 +156,7 @@ unfoldable pub startStep : Machine → ℕ → ℕ → Page → Result
 startStep M c phase page =
     let e : Effect = startEffect M c phase page in
     let code : ℕ = refusal (startRead c) M e in
-    if eqb code 0 then record { answer = e .answer; page = e .page; machine = applied e M }
-    else refused code [] M
+    if eqb code 0 then accepted e M else refused code [] M
 
 -- ---- deliver
 
@@ -196,7 +194,7 @@ hasRoom M y = leb (size (y .to)) (emptySlots (M .slots) + 1)
 pub record Committed (lay : Layout) (m : List ℕ) (s : ℕ) (change : Change) (y : Post) (given a : Answer) (n : List ℕ) : Type 0 where
   pub answer : a ≡ (if hasRoom (machineOf lay m) y then given else coded 24)
   pub buffer : n ≡ (if hasRoom (machineOf lay m) y
-      then words (withSlots (changed change (machineOf lay m)) (placed (messagesOf y) (set (machineOf lay m .slots) s noMessage))) (drop (extent lay) m)
+      then words (withSlots (changed change (machineOf lay m)) (placed (messagesOf y) (set (changed change (machineOf lay m) .slots) s noMessage))) (drop (extent lay) m)
       else m)
 
 -- the replica r with other entries

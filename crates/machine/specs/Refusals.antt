@@ -1,6 +1,7 @@
 -- The table of codes, 18 to 24: one test for each line, in one ordered list. "The lowest that applies is given, and none is given otherwise."
 use Rattle.sets.specs.Plain.{Bool, false, not, _&&_, _||_, ℕ, _+_, ltb, eqb, List, [], _∷_, length, if_then_else_}
 use Rattle.tables.specs.declared.Message.{Message}
+use Rattle.tables.specs.declared.Party.{Party}
 use Rattle.tables.specs.declared.Party.the-variants.{AClient, AReplica}
 use Rattle.tables.specs.Tables.{Machine, clientAt, replicaAt, slotAt, isEmpty}
 use Rattle.tables.specs.Phases.{isIdle}
@@ -9,7 +10,7 @@ use Rattle.mail.specs.Slots.{freed, emptySlots}
 use Rattle.inspect.specs.Good.{between, goodNumbers, isParty}
 use Rattle.rules.specs.Replica.{isFull}
 use Rattle.machine.specs.Effects.{Effect}
-use Rattle.machine.specs.Calls.{Call, setUp, startRead, startWrite, deliver, gossip, tidy, crash, report, isDown, partyOf}
+use Rattle.machine.specs.Calls.{Call, setUp, startRead, startWrite, deliver, gossip, tidy, crash, report, partyOf, starter, asks, asked, isDown}
 
 -- 18 BAD ARGUMENT: "a number out of range; gossip to itself"
 abbrev pub badArgument : Call → Machine → Bool
@@ -24,26 +25,8 @@ badArgument (crash kind id) M = not (isParty (M .conf) (partyOf kind) id)
 badArgument report M = false
 
 -- 19 DOWN: "starter, gossip sender, tidied or crashed party is down"
-abbrev pub downParty : Call → Machine → Bool
-downParty (setUp k page) M = false
-downParty (startRead c) M = isDown M AClient c
-downParty (startWrite c page) M = isDown M AClient c
-downParty (deliver s page) M = false
-downParty (gossip from to) M = isDown M AReplica from
-downParty (tidy r) M = isDown M AReplica r
-downParty (crash kind id) M = isDown M (partyOf kind) id
-downParty report M = false
-
--- the starter of a call
-abbrev pub starts : Call → Machine → (Machine → ℕ → Bool) → Bool
-starts (startRead c) M test = test M c
-starts (startWrite c page) M test = test M c
-starts (setUp k page) M test = false
-starts (deliver s page) M test = false
-starts (gossip from to) M test = false
-starts (tidy r) M test = false
-starts (crash kind id) M test = false
-starts report M test = false
+abbrev pub downParty : Machine → Party × ℕ → Bool
+downParty M q = isDown M (q .0) (q .1)
 
 -- 20 BUSY: "start while not idle"
 abbrev pub isBusy : Machine → ℕ → Bool
@@ -53,20 +36,9 @@ isBusy M c = not (isIdle (clientAt M c .phase))
 abbrev pub isWorn : Machine → ℕ → Bool
 isWorn M c = ltb (M .conf .top) (clientAt M c .number + 3)
 
--- the delivered message of a call
-abbrev pub delivers : Call → Machine → (Machine → Message → Bool) → Bool
-delivers (deliver s page) M test = test M (slotAt M s)
-delivers (setUp k page) M test = false
-delivers (startRead c) M test = false
-delivers (startWrite c page) M test = false
-delivers (gossip from to) M test = false
-delivers (tidy r) M test = false
-delivers (crash kind id) M test = false
-delivers report M test = false
-
 -- 22 EMPTY: "deliver an empty slot"
-abbrev pub isVoid : Machine → Message → Bool
-isVoid M x = isEmpty x
+abbrev pub isVoid : Machine → ℕ → Bool
+isVoid M s = isEmpty (slotAt M s)
 
 -- 23 FULL: "10 or 15, receiver up, new tag, no free entry"
 abbrev pub isOverfull : Machine → Message → Bool
@@ -76,20 +48,32 @@ isOverfull M x = not (isDown M AReplica (x .receiver)) && isFull (replicaAt M (x
 abbrev pub noSlot : Machine → Effect → Bool
 noSlot M e = ltb (emptySlots (freed (e .emptied) (M .slots))) (length (messagesOf (e .post)))
 
+-- ---- the list
+
 -- the code of the first test that applies, 0 where none does
 abbrev pub firstOf : List (ℕ × Bool) → ℕ
 firstOf [] = 0
 firstOf (t ∷ ts) = if t .1 then t .0 else firstOf ts
 
 -- the effect is the one that the call would have
-unfoldable pub refusal : Call → Machine → Effect → ℕ
-refusal c M e =
-    firstOf (
+abbrev pub tests : Call → Machine → Effect → List (ℕ × Bool)
+tests c M e =
     (18, badArgument c M)
-    ∷ (19, downParty c M)
-    ∷ (20, starts c M isBusy)
-    ∷ (21, starts c M isWorn)
-    ∷ (22, delivers c M isVoid)
-    ∷ (23, delivers c M isOverfull)
+    ∷ (19, asked (downParty M) (asks c .up))
+    ∷ (20, asked (λ o. isBusy M (starter o)) (asks c .start))
+    ∷ (21, asked (λ o. isWorn M (starter o)) (asks c .start))
+    ∷ (22, asked (isVoid M) (asks c .slot))
+    ∷ (23, asked (λ s. isOverfull M (slotAt M s)) (asks c .delivered))
     ∷ (24, noSlot M e)
-    ∷ [])
+    ∷ []
+
+unfoldable pub refusal : Call → Machine → Effect → ℕ
+refusal c M e = firstOf (tests c M e)
+
+-- ---- the listed codes
+
+abbrev pub acceptedCodes : List ℕ
+acceptedCodes = 0 ∷ 1 ∷ 2 ∷ 3 ∷ 4 ∷ 5 ∷ []
+
+abbrev pub refusedCodes : List ℕ
+refusedCodes = 16 ∷ 17 ∷ 18 ∷ 19 ∷ 20 ∷ 21 ∷ 22 ∷ 23 ∷ 24 ∷ []

@@ -17,10 +17,11 @@ use Rattle.rules.specs.Quorums.{enoughToRead, enoughToWrite}
 use Rattle.rules.specs.Directory.{directoryAfter, directoryPost}
 use Rattle.rules.specs.Replica.{entryWith, raised, highest, secure, write, hearGossip, read, tidied, replicaAfter, replicaPost, isFull, gossipPost}
 use Rattle.rules.specs.Client.{awaited, enoughFor, isStale, heard, chosen, turned, outcome, clientAfter, request, secures, clientPost}
+use Rattle.machine.specs.SetUp.{newMachine}
 use Rattle.machine.specs.Calls.{Call, setUp, startRead, startWrite, deliver, partyOf, startEffect, gossipEffect, tidyEffect, crashEffect}
 use Rattle.machine.specs.Deliver.{clientEffect, directoryEffect, replicaEffect, deliverEffect}
 use Rattle.machine.specs.Refusals.{refusal}
-use Rattle.machine.specs.Steps.{Result, newMachine, effectOf, step}
+use Rattle.machine.specs.Steps.{Result, effectOf, step}
 
 -- a page is its first word, and zeros
 abbrev pageOf : ℕ → Page

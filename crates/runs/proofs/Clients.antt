@@ -20,8 +20,8 @@ use Rattle.inspect.proofs.Facts.{TagFacts, ClientFacts, MessageFacts}
 use Rattle.mail.specs.declared.Post.{Post}
 use Rattle.rules.specs.declared.Outcome.{Outcome}
 use Rattle.mail.specs.Posts.{noPost}
-use Rattle.rules.specs.Client.{awaited, enoughFor, heard, idle, moved, outcome, clientAfter, request, clientPost}
-use Rattle.rules.proofs.Views.{Timely, Completes, View, v-stale, v-waits, v-1, v-2, v-3, v-4, v-spent, v-5, v-6, view}
+use Rattle.rules.specs.Client.{awaited, enoughFor, heard, idle, moved, clientAfter, request, clientPost}
+use Rattle.rules.proofs.Views.{Timely, Completes, View, v-stale, v-waits, v-1, v-2, v-3, v-4, v-spent, v-5, v-6}
 use Rattle.runs.proofs.Sound.{Sends}
 use Rattle.runs.proofs.Sent.{is-between, sends-none}
 use Rattle.runs.proofs.Busy.{chosenFrom, Busy, busy, busy-facts, idle-facts, heard-busy, moved-busy, request-sends, secures-sends}
@@ -73,19 +73,16 @@ module _ (k : Conf) (own : ℕ) (w : Client) (x : Message) (f : ClientFacts k w)
   new-tag : heard w x .tag .number < k .top → TagFacts k (tag (heard w x .tag .number + 1) own)
   new-tag m = record { number = omega arith; client = h; first = λ z. absurd (omega arith); later = λ z. absurd (omega arith) }
 
-  pub client-answers : Answers k (clientAfter w x (outcome k own w x)) (clientPost k own w (clientAfter w x (outcome k own w x)) (outcome k own w x))
+  pub client-answers : {o : Outcome} → View k own w x o → Answers k (clientAfter w x o) (clientPost k own w (clientAfter w x o) o)
   unfolding clientAfter clientPost
-  client-answers = go (view k own w x full)
-    where
-      go : {o : Outcome} → View k own w x o → Answers k (clientAfter w x o) (clientPost k own w (clientAfter w x o) o)
-      go (v-stale _) = record { facts = f; page = q; post = sends-none k }
-      go (v-waits t n) = waits t n
-      go (v-1 c) = turns 1 (heard w x .tag) c (omega arith) (λ e. omega arith) (omega arith) (omega arith) (λ _. refl) (λ b. b .tag) (λ b. b .set)
-      go (v-2 c) = turns 2 (heard w x .tag) c (omega arith) (λ e. omega arith) (omega arith) (omega arith) (λ _. refl) (λ b. b .tag) (λ b. b .set)
-      go (v-3 c) = ends (sends-none k)
-      go (v-4 c m) = turns 4 (tag (heard w x .tag .number + 1) own) c (omega arith) (λ e. omega arith) (omega arith) (omega arith) (λ e. e) (λ _. new-tag m) (λ b. b .set)
-      go (v-spent c _) = ends (sends-none k)
-      go (v-5 c) = turns 5 (heard w x .tag) c (omega arith) (λ e. omega arith) (omega arith) (omega arith) (λ e. e) (λ b. b .tag) (λ b. b .answered)
-      go (v-6 c) =
-          let b = busy k 6 w f q (c .phase) (omega arith) in
-          ends (secures-sends b own own-party (b .set))
+  client-answers (v-stale _) = record { facts = f; page = q; post = sends-none k }
+  client-answers (v-waits t n) = waits t n
+  client-answers (v-1 c) = turns 1 (heard w x .tag) c (omega arith) (λ e. omega arith) (omega arith) (omega arith) (λ _. refl) (λ b. b .tag) (λ b. b .set)
+  client-answers (v-2 c) = turns 2 (heard w x .tag) c (omega arith) (λ e. omega arith) (omega arith) (omega arith) (λ _. refl) (λ b. b .tag) (λ b. b .set)
+  client-answers (v-3 c) = ends (sends-none k)
+  client-answers (v-4 c m) = turns 4 (tag (heard w x .tag .number + 1) own) c (omega arith) (λ e. omega arith) (omega arith) (omega arith) (λ e. e) (λ _. new-tag m) (λ b. b .set)
+  client-answers (v-spent c _) = ends (sends-none k)
+  client-answers (v-5 c) = turns 5 (heard w x .tag) c (omega arith) (λ e. omega arith) (omega arith) (omega arith) (λ e. e) (λ b. b .tag) (λ b. b .answered)
+  client-answers (v-6 c) =
+      let b = busy k 6 w f q (c .phase) (omega arith) in
+      ends (secures-sends b own own-party (b .set))

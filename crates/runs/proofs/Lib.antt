@@ -1,5 +1,7 @@
--- The theorems of every run: Refused, One, Reached, Never, Runs. Sound, Ways, New, Rows and Reached are cited by `history`; the rest may change freely.
+-- The theorems of every run: Refused, One, Runs, Never. Codes, Ways, Acts, Sound, New, Rows and Kept are cited above; the rest may change freely.
+pub mod Codes
 pub mod Ways
+pub mod Acts
 pub mod Refused
 pub mod One
 pub mod Sound
@@ -11,6 +13,6 @@ pub mod Busy
 pub mod Clients
 pub mod New
 pub mod Rows
-pub mod Reached
-pub mod Never
+pub mod Kept
 pub mod Runs
+pub mod Never

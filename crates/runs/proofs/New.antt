@@ -19,7 +19,7 @@ use Rattle.tables.proofs.All.{cons, all-replicate}
 use Rattle.tables.proofs.Whole.{Paged, Stocked, blank-client, blank-message, blank-entry, blank-replica}
 use Rattle.mail.proofs.Messages.{all-from}
 use Rattle.inspect.specs.Good.{zeros, eachRow, goodNumbers, goodClient, goodDirectory, goodEntry, tagsOnce, goodReplica, clientRow, directoryRow, replicaRow, slotRow, goodMachine}
-use Rattle.machine.specs.Steps.{firstDirectory, firstReplica, newMachine}
+use Rattle.machine.specs.SetUp.{firstDirectory, firstReplica, newMachine}
 use Rattle.runs.proofs.Sound.{Sound}
 
 -- rows made from their own numbers

@@ -1,9 +1,12 @@
--- The rows of a sound machine: what is known of each that a call names.
+-- A row after another row is replaced; and the rows of a sound machine: what is known of each that a call names.
 use mathlib.Core.Bool.{true, false}
-use mathlib.Core.Path.{_≡_}
-use Prim.Native.Nat.{ℕ, _≤_}
+use mathlib.Core.List.{List, [], _∷_}
+use mathlib.Core.Path.{_≡_, refl, ap}
+use Prim.Native.Nat.{ℕ, zero, suc, _≤_}
 use native.Mathlib.Omega.{arith}
-use lib.ListN.{length}
+use lib.ListN.{length, getD, set}
+use lib.Seq.{getD-set-same}
+use Rattle.tables.specs.Rows.{row, withRow}
 use Rattle.tables.specs.Tables.{Machine, clientAt, directoryAt, replicaAt, slotAt, isEmpty}
 use Rattle.tables.proofs.Whole.{replica-stocked}
 use Rattle.inspect.specs.Good.{goodClient, goodReplica}
@@ -11,6 +14,28 @@ use Rattle.inspect.proofs.Facts.{NumbersFacts, DirectoryFacts, MessageFacts, nu
 use Rattle.inspect.proofs.Machines.{numbers-pass, client-good, directory-good, replica-good, message-good}
 use Rattle.runs.proofs.Sound.{Sound}
 use Rattle.runs.proofs.Replicas.{Stores, stores}
+
+-- ---- any rows
+
+module _ {A : Type 0} where
+  set-ind : (P : A → Type 0) (d : A) (l : List A) (i j : ℕ) (x : A) → (i ≡ j → P x) → P (getD l j d) → P (getD (set l i x) j d)
+  set-ind P d [] i j x f h = h
+  set-ind P d (y ∷ l) zero zero x f h = f refl
+  set-ind P d (y ∷ l) zero (suc j) x f h = h
+  set-ind P d (y ∷ l) (suc i) zero x f h = h
+  set-ind P d (y ∷ l) (suc i) (suc j) x f h = set-ind P d l i j x (λ e. f (ap suc e)) h
+
+  -- row q after x became row p
+  pub row-ind : (P : A → Type 0) (d : A) (l : List A) (p q : ℕ) (x : A) → (p ≡ q → P x) → P (row d l q) → P (row d (withRow l p x) q)
+  row-ind P d l zero q x f h = h
+  row-ind P d l (suc p) zero x f h = h
+  row-ind P d l (suc p) (suc q) x f h = set-ind P d l p q x (λ e. f (ap suc e)) h
+
+  pub row-same : (d : A) (l : List A) (p : ℕ) (x : A) → 1 ≤ p → p ≤ length l → row d (withRow l p x) p ≡ x
+  row-same d l zero x h k = absurd (omega arith)
+  row-same d l (suc p) x h k = getD-set-same l p x d k
+
+-- ---- a sound machine
 
 module _ {M : Machine} (z : Sound M) where
   pub numbers-of : NumbersFacts (length (M .directories)) (M .conf)

@@ -6,9 +6,8 @@ use mathlib.Core.Path.{_≡_, refl, sym, ap, subst, _∙_}
 use Prim.Native.Nat.{ℕ, _≤_}
 use native.Mathlib.Omega.{arith}
 use borrow.Author.Tests.{le-ltb, eq-eqb}
-use lib.Dec.{T, T-not}
+use lib.Dec.{T, eqb, eqb→eq, T-not}
 use lib.ListN.{length, drop, length-drop}
-use Rattle.sets.specs.Plain.{if_then_else_}
 use Rattle.sets.proofs.Tests.{T-true, not-not, not-both, either, if-ind}
 use Rattle.tables.specs.declared.Layout.{Layout}
 use Rattle.tables.specs.declared.Conf.{Conf}
@@ -16,33 +15,26 @@ use Rattle.tables.specs.Tables.{Page, Machine}
 use Rattle.tables.specs.Layouts.{extent}
 use Rattle.tables.specs.Words.{words}
 use Rattle.tables.specs.Machines.{machineOf}
-use Rattle.tables.proofs.All.{All, none, cons}
 use Rattle.tables.proofs.Read.{its-room}
 use Rattle.tables.proofs.Whole.{Paged, Whole, Room, wholeOf}
 use Rattle.tables.proofs.Round.{words-back, machine-back, rest-words, length-words}
 use Rattle.inspect.specs.Good.{goodNumbers, good}
 use Rattle.inspect.proofs.Machines.{good-machine}
 use Rattle.rules.specs.Answers.{coded}
-use Rattle.machine.specs.Effects.{nothing}
+use Rattle.machine.specs.SetUp.{newMachine}
+use Rattle.machine.specs.Effects.{anew}
 use Rattle.machine.specs.Calls.{Call, setUp}
 use Rattle.machine.specs.Refusals.{refusal}
-use Rattle.machine.specs.Steps.{Result, newMachine, effectOf, pageIn, refused, step}
+use Rattle.machine.specs.Steps.{effectOf, Result, codeOf, step}
 use Rattle.machine.specs.Buffers.{wrongPage, wrongSize, isSetUp, badMachine, Outcomes, left, call}
-use Rattle.machine.proofs.Quiet.{quiet-fits}
-use Rattle.runs.proofs.Ways.{codeOf, StepWay, refuses, accepts, step-way, CallWay, sized, bad, steps, call-way, is-long, is-paged}
+use Rattle.machine.proofs.Quiet.{quiet-fits, quiet-applied}
+use Rattle.runs.specs.Runs.{Beyond, Renews, bufferAfter, sizedStep, shown, ran, called}
+use Rattle.runs.proofs.Ways.{StepWay, refuses, accepts, step-way, allowed, CallWay, sized, bad, steps, call-way, is-long, is-paged}
 use Rattle.runs.proofs.Sound.{Sound}
 use Rattle.runs.proofs.New.{new-room, new-sound}
-use Rattle.runs.proofs.Reached.{accepted-sound, step-sound, step-room}
+use Rattle.runs.proofs.Kept.{accepted-sound, step-sound, step-room}
 
 -- ---- one call
-
--- a step, with SIZE for a page that has not 16 words
-abbrev pub sizedStep : Call → Machine → Result
-sizedStep c M = if wrongPage c then refused 16 (pageIn c) M else step c M
-
--- a step as a buffer with the later words t shows it
-abbrev pub shown : List ℕ → Result → Outcomes
-shown t r = left (r .answer) (r .page) (words (r .machine) t)
 
 pub sized-sound : (c : Call) (M : Machine) → Sound M → Sound (sizedStep c M .machine)
 sized-sound c M z = if-ind (λ (r : Result). Sound (r .machine)) (wrongPage c) (λ _. z) (λ n. step-sound c M z n)
@@ -71,15 +63,6 @@ module _ {lay : Layout} (c : Call) {M : Machine} (i : Room lay M) (z : Sound M) 
 
 -- ---- a list of calls
 
--- the results one after the other, on a machine and on a buffer
-unfoldable pub ran : Machine → List Call → List Result
-ran M [] = []
-ran M (c ∷ cs) = let r : Result = sizedStep c M in r ∷ ran (r .machine) cs
-
-unfoldable pub called : Layout → List ℕ → List Call → List Outcomes
-called lay m [] = []
-called lay m (c ∷ cs) = let o : Outcomes = call lay c m in o ∷ called lay (o .buffer) cs
-
 -- the buffers and answers are the words and answers of the steps
 pub run-is : (lay : Layout) (cs : List Call) {M : Machine} → Room lay M → Sound M → (t : List ℕ) → called lay (words M t) cs ≡ map (shown t) (ran M cs)
 unfolding called ran
@@ -88,50 +71,69 @@ run-is lay (c ∷ cs) {M} i z t =
     ap (λ (o : Outcomes). o ∷ called lay (o .buffer) cs) (call-is c i z t)
     ∙ ap (λ (os : List Outcomes). shown t (sizedStep c M) ∷ os) (run-is lay cs (sized-room c M i) (sized-sound c M z) t)
 
--- and no buffer is bad
-pub run-good : (lay : Layout) (cs : List Call) {M : Machine} → Room lay M → Sound M → (t : List ℕ)
-    → All (λ (o : Outcomes). good lay (o .buffer) ≡ true) (called lay (words M t) cs)
-unfolding called
-run-good lay [] i z t = none
-run-good lay (c ∷ cs) {M} i z t =
-    subst (λ (o : Outcomes). All (λ (o : Outcomes). good lay (o .buffer) ≡ true) (o ∷ called lay (o .buffer) cs)) (sym (call-is c i z t))
-    (cons (words-good (sized-room c M i) (sized-sound c M z) t) (run-good lay cs (sized-room c M i) (sized-sound c M z) t))
-
 -- on a buffer that is not bad
 pub run-on : (lay : Layout) (m : List ℕ) → extent lay ≤ length m → good lay m ≡ true → (cs : List Call)
     → called lay m cs ≡ map (shown (drop (extent lay) m)) (ran (machineOf lay m) cs)
 run-on lay m h g cs =
     ap (λ (l : List ℕ). called lay l cs) (sym (words-back lay m h)) ∙ run-is lay cs (its-room lay m) (buffer-sound lay m h g) (drop (extent lay) m)
 
--- ---- from an accepted set-up on, whatever the buffer held
+-- ---- a set-up, on whatever buffer
 
-module _ (lay : Layout) (k : Conf) (page : Page) (g : goodNumbers (lay .directories) k ≡ true) (p : Paged page) where
+module _ (lay : Layout) (k : Conf) (page : Page) where
   -- the machine that it makes
   abbrev N : Machine
   N = newMachine (lay .directories) k page
 
-  pub set-up-accepted : (M : Machine) → Room lay M → codeOf (setUp k page) M ≡ 0
-  unfolding refusal effectOf
-  set-up-accepted M i = rw (i, g, quiet-fits M nothing)
+  module _ (g : goodNumbers (lay .directories) k ≡ true) (p : Paged page) where
+    pub set-up-accepted : (M : Machine) → Room lay M → codeOf (setUp k page) M ≡ 0
+    unfolding refusal effectOf
+    set-up-accepted M i = rw (i, g, quiet-fits M (anew k page))
 
-  pub set-up-is : (m : List ℕ) → extent lay ≤ length m → call lay (setUp k page) m ≡ left (coded 0) [] (words N (drop (extent lay) m))
-  unfolding call step effectOf
-  set-up-is m h =
-      rw (le-ltb (length m) (extent lay) h, eq-eqb (length page) 16 p, set-up-accepted (machineOf lay m) (its-room lay m), its-room lay m)
+    pub set-up-is : (m : List ℕ) → extent lay ≤ length m → call lay (setUp k page) m ≡ left (coded 0) [] (words N (drop (extent lay) m))
+    unfolding call step effectOf
+    set-up-is m h =
+        rw (le-ltb (length m) (extent lay) h, eq-eqb (length page) 16 p, set-up-accepted (machineOf lay m) (its-room lay m), quiet-applied (machineOf lay m) (anew k page), its-room lay m)
 
-  pub run-from : (m : List ℕ) → extent lay ≤ length m → (cs : List Call)
-      → called lay m (setUp k page ∷ cs) ≡ left (coded 0) [] (words N (drop (extent lay) m)) ∷ map (shown (drop (extent lay) m)) (ran N cs)
-  unfolding called
-  run-from m h cs =
-      ap (λ (o : Outcomes). o ∷ called lay (o .buffer) cs) (set-up-is m h)
-      ∙ ap (λ (os : List Outcomes). left (coded 0) [] (words N (drop (extent lay) m)) ∷ os)
-      (run-is lay cs (new-room (lay .directories) k page) (new-sound k page p (lay .directories) g) (drop (extent lay) m))
+  -- what an accepted one has been asked
+  pub record Asked (m : List ℕ) : Type 0 where
+    pub numbers : goodNumbers (lay .directories) k ≡ true
+    pub paged : Paged page
+    pub long : extent lay ≤ length m
+
+  module _ (m : List ℕ) (r : Renews (setUp k page) (call lay (setUp k page) m .answer)) where
+    pub set-up-asked : Asked m
+    set-up-asked = go (call-way lay (setUp k page) m) (r .1)
+      where
+        rows : ℕ
+        rows = length (machineOf lay m .directories)
+
+        stepped : T (not (wrongSize lay (setUp k page) m)) → {x : Result} → StepWay (setUp k page) (machineOf lay m) x → x .answer .code ≡ 0 → Asked m
+        stepped w (refuses h) e = absurd (omega arith)
+        stepped w (accepts h) e =
+            record {
+              numbers = subst (λ (n : ℕ). goodNumbers n k ≡ true) (its-room lay m)
+                  (T-true (goodNumbers rows k) (not-not (goodNumbers rows k) (allowed (setUp k page) (machineOf lay m) h .argument)));
+              paged = eqb→eq (length page) 16 (not-not (eqb (length page) 16) (is-paged lay (setUp k page) m w));
+              long = is-long lay (setUp k page) m w;
+            }
+
+        go : {o : Outcomes} → CallWay lay (setUp k page) m o → o .answer .code ≡ 0 → Asked m
+        go (sized _) e = absurd (omega arith)
+        go (bad _ b) e = absurd b
+        go (steps w _) e = stepped w (step-way (setUp k page) (machineOf lay m)) e
+
+    pub set-up-made : call lay (setUp k page) m ≡ left (coded 0) [] (words N (drop (extent lay) m))
+    set-up-made = let a = set-up-asked in set-up-is (a .numbers) (a .paged) m (a .long)
+
+    pub run-from : (cs : List Call) → called lay m (setUp k page ∷ cs) ≡ left (coded 0) [] (words N (drop (extent lay) m)) ∷ map (shown (drop (extent lay) m)) (ran N cs)
+    unfolding called
+    run-from cs =
+        let a = set-up-asked in
+        ap (λ (o : Outcomes). o ∷ called lay (o .buffer) cs) set-up-made
+        ∙ ap (λ (os : List Outcomes). left (coded 0) [] (words N (drop (extent lay) m)) ∷ os)
+        (run-is lay cs (new-room (lay .directories) k page) (new-sound k page (a .paged) (lay .directories) (a .numbers)) (drop (extent lay) m))
 
 -- ---- the later words, for every call and every buffer
-
-pub record Beyond (lay : Layout) (m n : List ℕ) : Type 0 where
-  pub words : drop (extent lay) n ≡ drop (extent lay) m
-  pub long : length n ≡ length m
 
 pub later-kept : (lay : Layout) (c : Call) (m : List ℕ) → Beyond lay m (call lay c m .buffer)
 later-kept lay c m = go (call-way lay c m)
@@ -161,3 +163,51 @@ later-kept lay c m = go (call-way lay c m)
     go (sized _) = same
     go (bad _ _) = same
     go (steps n b) = stepped n b (step-way c (machineOf lay m)) (step-room c (machineOf lay m) ∙ its-room lay m)
+
+-- ---- buffers that are not bad
+
+pub record Fine (lay : Layout) (m : List ℕ) : Type 0 where
+  pub long : extent lay ≤ length m
+  pub sound : Sound (machineOf lay m)
+
+module _ (lay : Layout) (c : Call) (m : List ℕ) (f : Fine lay m) where
+  abbrev M : Machine
+  M = machineOf lay m
+
+  pub fine-call : call lay c m ≡ shown (drop (extent lay) m) (sizedStep c M)
+  fine-call = ap (call lay c) (sym (words-back lay m (f .long))) ∙ call-is c (its-room lay m) (f .sound) (drop (extent lay) m)
+
+  pub fine-machine : machineOf lay (call lay c m .buffer) ≡ sizedStep c M .machine
+  fine-machine =
+      ap (λ (o : Outcomes). machineOf lay (o .buffer)) fine-call
+      ∙ machine-back lay (sizedStep c M .machine) (drop (extent lay) m) (sized-sound c M (f .sound) .whole) (sized-room c M (its-room lay m))
+
+  pub fine-on : Fine lay (call lay c m .buffer)
+  fine-on =
+      record { long = rw (later-kept lay c m .long) (f .long); sound = rw fine-machine (sized-sound c M (f .sound)) }
+
+pub fine-after : (lay : Layout) (cs : List Call) (m : List ℕ) → Fine lay m → Fine lay (bufferAfter lay m cs)
+fine-after lay [] m f = f
+fine-after lay (c ∷ cs) m f = fine-after lay cs (call lay c m .buffer) (fine-on lay c m f)
+
+-- the machine of an accepted set-up
+module _ (lay : Layout) (k : Conf) (page : Page) (m : List ℕ) (r : Renews (setUp k page) (call lay (setUp k page) m .answer)) where
+  pub made-machine : machineOf lay (call lay (setUp k page) m .buffer) ≡ newMachine (lay .directories) k page
+  made-machine =
+      let a = set-up-asked lay k page m r in
+      ap (λ (o : Outcomes). machineOf lay (o .buffer)) (set-up-made lay k page m r)
+      ∙ machine-back lay (newMachine (lay .directories) k page) (drop (extent lay) m)
+      (new-sound k page (a .paged) (lay .directories) (a .numbers) .whole) (new-room (lay .directories) k page)
+
+  pub made-fine : Fine lay (call lay (setUp k page) m .buffer)
+  made-fine =
+      let a = set-up-asked lay k page m r in
+      record {
+        long = rw (later-kept lay (setUp k page) m .long) (a .long);
+        sound = rw made-machine (new-sound k page (a .paged) (lay .directories) (a .numbers));
+      }
+
+  -- no buffer is bad that calls lead to from an accepted set-up
+  pub never-bad : (cs : List Call) → good lay (bufferAfter lay (call lay (setUp k page) m .buffer) cs) ≡ true
+  unfolding good
+  never-bad cs = fine-after lay cs (call lay (setUp k page) m .buffer) made-fine .sound .good

@@ -1,7 +1,7 @@
 -- A sound machine is good, and has the rows and pages that its words have. An effect with a good row and good messages keeps it so.
 use mathlib.Core.Bool.{Bool, true, false, _&&_}
 use mathlib.Core.List.{List, [], _∷_}
-use mathlib.Core.Path.{_≡_, refl, subst, _∙_}
+use mathlib.Core.Path.{_≡_, refl, ap, subst, _∙_}
 use Prim.Native.Nat.{ℕ, suc, _≤_}
 use native.Mathlib.Omega.{arith}
 use borrow.Author.Tests.{ne-eqb}
@@ -23,7 +23,7 @@ use Rattle.mail.specs.declared.Post.{Post}
 use Rattle.mail.specs.Posts.{toReceiver, messagesOf}
 use Rattle.mail.specs.Slots.{freed}
 use Rattle.mail.proofs.Messages.{all-sent, all-placed, all-freed, length-placed}
-use Rattle.machine.specs.Effects.{Change, nothing, client, directory, replica, Effect, changed, applied}
+use Rattle.machine.specs.Effects.{Change, nothing, client, directory, replica, anew, Effect, changed, applied}
 
 pub record Sound (M : Machine) : Type 0 where
   pub good : goodMachine M ≡ true
@@ -105,24 +105,27 @@ stands-sent {k} {y} s = all-sent (Stands k) y (λ p m. stands-good k (toReceiver
 
 -- ---- what is changed
 
--- a row that may stand there
+-- a row that may stand there; a new machine is another matter
 abbrev pub Fits : Conf → Change → Type 0
 Fits k nothing = Unit {0}
 Fits k (client c w) = (clientRow k c w ≡ true) × Paged (w .page)
 Fits k (directory d w) = directoryRow k d w ≡ true
 Fits k (replica r w) = (replicaRow k r w ≡ true) × Stocked w
+Fits k (anew _ page) = ⊥
 
 changed-sound : {M : Machine} (x : Change) → Sound M → Fits (M .conf) x → Sound (changed x M)
 changed-sound nothing z f = z
 changed-sound {M} (client c w) z f = record { good = good-client M (z .good) c w (f .0); whole = whole-client (z .whole) c w (f .1) }
 changed-sound {M} (directory d w) z f = record { good = good-directory M (z .good) d w f; whole = whole-directory (z .whole) d w }
 changed-sound {M} (replica r w) z f = record { good = good-replica M (z .good) r w (f .0); whole = whole-replica (z .whole) r w (f .1) }
+changed-sound (anew k page) z f = absurd f
 
-pub changed-conf : (x : Change) (M : Machine) → changed x M .conf ≡ M .conf
-changed-conf nothing M = refl
-changed-conf (client c w) M = refl
-changed-conf (directory d w) M = refl
-changed-conf (replica r w) M = refl
+changed-keeps : (x : Change) (M : Machine) → Fits (M .conf) x → (changed x M .conf ≡ M .conf) × (changed x M .slots ≡ M .slots)
+changed-keeps nothing M f = (refl, refl)
+changed-keeps (client c w) M f = (refl, refl)
+changed-keeps (directory d w) M f = (refl, refl)
+changed-keeps (replica r w) M f = (refl, refl)
+changed-keeps (anew k page) M f = absurd f
 
 -- ---- an effect
 
@@ -132,7 +135,8 @@ pub record Keeps (k : Conf) (e : Effect) : Type 0 where
 
 pub applied-sound : {M : Machine} {e : Effect} → Sound M → Keeps (M .conf) e → Sound (applied e M)
 applied-sound {M} {e} z f =
+    let q = changed-keeps (e .change) M (f .change) in
     slots-sound (changed-sound (e .change) z (f .change))
-    (length-placed (messagesOf (e .post)) (freed (e .emptied) (M .slots)) ∙ length-freed (e .emptied) (M .slots) ∙ z .whole .slots)
-    (rw (changed-conf (e .change) M)
+    (length-placed (messagesOf (e .post)) (freed (e .emptied) (changed (e .change) M .slots)) ∙ length-freed (e .emptied) (changed (e .change) M .slots) ∙ ap length (q .1) ∙ z .whole .slots)
+    (rw (q .0, q .1)
     (all-placed (Stands (M .conf)) (stands-sent (f .post)) (all-freed (Stands (M .conf)) (e .emptied) (stands-none (M .conf)) (slots-in (M .conf) (M .slots) (slots-pass M (z .good)) (z .whole .slot-pages)))))

@@ -1,6 +1,6 @@
 use mathlib.Core.Bool.{Bool, true, false, not}
 use mathlib.Core.List.{List, []}
-use mathlib.Core.Path.{_≡_, refl, sym, _∙_}
+use mathlib.Core.Path.{_≡_, refl, sym, ap, _∙_}
 use Prim.Native.Nat.{ℕ}
 use native.Mathlib.Omega.{arith}
 use borrow.Author.Needs.{needs}
@@ -10,19 +10,20 @@ use Rattle.tables.specs.declared.Layout.{Layout}
 use Rattle.tables.specs.declared.Conf.{Conf}
 use Rattle.tables.specs.Inner.{Fits}
 use Rattle.tables.specs.Layouts.{extent}
-use Rattle.tables.specs.Tables.{Page}
+use Rattle.tables.specs.Tables.{Page, Machine}
 use Rattle.tables.specs.Words.{words}
 use Rattle.tables.specs.Machines.{machineOf}
 use Rattle.tables.proofs.Read.{its-room}
 use Rattle.inspect.specs.Good.{goodNumbers}
 use Rattle.rules.specs.declared.Answer.{Answer}
 use Rattle.rules.specs.Answers.{coded}
-use Rattle.machine.specs.Effects.{nothing}
+use Rattle.machine.specs.Effects.{anew, changed}
 use Rattle.machine.specs.Calls.{setUp}
 use Rattle.machine.specs.Refusals.{refusal}
-use Rattle.machine.specs.Steps.{newMachine, effectOf, step}
+use Rattle.machine.specs.SetUp.{newMachine}
+use Rattle.machine.specs.Steps.{effectOf, step}
 use Rattle.machine.specs.Inner.{Took}
-use Rattle.machine.proofs.Quiet.{quiet-fits}
+use Rattle.machine.proofs.Quiet.{quiet-fits, quiet-applied}
 use Rattle.machine.proofs.Steps.{took-refused, took-accepted}
 use Rattle.machine.proofs.setting.set_up_long.Statement.{statement}
 use Rattle.machine.proofs.setting.set_up_long.Tie as tie
@@ -38,7 +39,10 @@ module _ (lay : Layout) (k : Conf) (b : Bool) (e : b ≡ goodNumbers (lay .direc
 
     done : (n : List ℕ) → not b ≡ false → a ≡ coded 0 → n ≡ words (newMachine (lay .directories) k page) (drop (extent lay) m) → Took lay (step (setUp k page) (machineOf lay m)) a [] m n
     unfolding refusal effectOf
-    done n h q s = took-accepted lay (setUp k page) m n [] a (rw (its-room lay m, good h, quiet-fits (machineOf lay m) nothing)) q refl (rw (its-room lay m) s)
+    done n h q s =
+        let made : n ≡ words (changed (anew k page) (machineOf lay m)) (drop (extent lay) m) = rw (its-room lay m) s in
+        took-accepted lay (setUp k page) m n [] a (rw (its-room lay m, good h, quiet-fits (machineOf lay m) (anew k page))) q refl
+        (made ∙ sym (ap (λ (N : Machine). words N (drop (extent lay) m)) (quiet-applied (machineOf lay m) (anew k page))))
 
 pub set-up-long-spec : {M : Type 1} → statement M
 set-up-long-spec =
