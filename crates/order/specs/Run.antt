@@ -10,6 +10,7 @@ abbrev pub Page : Type 0
 Page = List ℕ
 
 -- What one call showed its caller: step k of a run is its k-th call, counted from 0. Any other call, refused or accepted, a crash too, is `nothing`.
+-- `gives-up`, and the fate `left` that it leads to, stand here for request [9]: no call of document 01 shows it.
 pub data Event : Type 0 where
   read-begins : (client : ℕ) → Event
   write-begins : (client : ℕ) → (page : Page) → Event
