@@ -1,7 +1,7 @@
 -- A request of a client's phase is delivered to a party that is up: its reply waits, and nothing else that the operation needs is lost.
 use mathlib.Core.Path.{_≡_, refl, sym, ap, _∙_}
 use mathlib.Core.Bool.{false, not, and-false}
-use mathlib.Core.List.{List}
+use mathlib.Core.List.{List, [], _∷_}
 use Prim.Native.Nat.{ℕ, suc, _≤_, _<_}
 use native.Mathlib.Omega.{arith}
 use lib.Dec.{T, eqb}
@@ -20,7 +20,7 @@ use Rattle.tables.specs.Kinds.{receiverOf}
 use Rattle.tables.specs.Phases.{asksDirectories}
 use Rattle.tables.specs.Rows.{some?}
 use Rattle.tables.specs.Tables.{Page, Replica, Machine, noPage, noDirectory, noReplica, clientAt, directoryAt, replicaAt, slotAt, withSlots, isEmpty, isFree}
-use Rattle.mail.specs.Posts.{message, post, noPost, toReceiver, messagesOf}
+use Rattle.mail.specs.Posts.{message, post, toReceiver, messagesOf}
 use Rattle.mail.specs.Slots.{emptySlots}
 use Rattle.mail.proofs.Messages.{length-messages}
 use Rattle.rules.specs.Answers.{coded}
@@ -28,8 +28,8 @@ use Rattle.rules.specs.Directory.{directoryAfter, directoryPost}
 use Rattle.rules.specs.Replica.{read, isFull, replicaAfter, replicaPost}
 use Rattle.rules.specs.Client.{awaited}
 use Rattle.rules.proofs.DirectoryViews.{DirectoryView, joins, takes, adds, stays, directory-view}
-use Rattle.machine.specs.Effects.{Change, nothing, directory, replica, Effect, changed}
-use Rattle.machine.specs.Calls.{isDown}
+use Rattle.machine.specs.Effects.{Change, directory, replica, Effect, changed}
+use Rattle.machine.specs.Calls.{isDown, emptying}
 use Rattle.machine.specs.Deliver.{taken, received, deliverEffect, directoryEffect, replicaEffect}
 use Rattle.machine.specs.Refusals.{isOverfull}
 use Rattle.runs.proofs.Acts.{Among}
@@ -111,7 +111,7 @@ pub record Replied (B : Machine) (c E p q : ℕ) (w : Client) (N : Machine) : Ty
 
 -- what the message x in slot s does
 abbrev pub effectOn : Machine → ℕ → Message → Effect
-effectOn M s x = if isDown M (receiverOf (x .kind)) (x .receiver) then taken s nothing noPost (coded 4) noPage else received (receiverOf (x .kind)) M s x noPage
+effectOn M s x = if isDown M (receiverOf (x .kind)) (x .receiver) then emptying (s ∷ []) 4 noPage else received (receiverOf (x .kind)) M s x noPage
 
 -- server q takes x: its reply goes to client c, it changes no row but its own, and does not fall
 record Serves (M : Machine) (s p c q n top : ℕ) (x : Message) : Type 0 where

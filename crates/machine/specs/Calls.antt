@@ -1,6 +1,6 @@
 -- The calls, what each asks for, and the effect of each but deliver.
 use mathlib.Core.Option.{Option, none, some}
-use Rattle.sets.specs.Plain.{Bool, true, false, ℕ, eqb, [], if_then_else_}
+use Rattle.sets.specs.Plain.{Bool, true, false, ℕ, eqb, List, [], if_then_else_}
 use Rattle.tables.specs.declared.Conf.{Conf}
 use Rattle.tables.specs.declared.Client.{Client}
 use Rattle.tables.specs.declared.Directory.{Directory}
@@ -52,7 +52,7 @@ pub record Asks : Type 0 where
   pub slot : Option ℕ  -- the slot that must have a message
   pub delivered : Option ℕ  -- the slot whose message is delivered
 
--- one row of the paper's table a call
+-- one row a call; `none` where the paper asks nothing of the kind
 abbrev pub asks : Call → Asks
 asks (setUp k page) = record { anew = true; page = some page; fill = []; up = none; start = none; slot = none; delivered = none }
 asks (startRead c) = record { anew = false; page = none; fill = []; up = some (AClient, c); start = some (read c); slot = none; delivered = none }
@@ -83,6 +83,10 @@ isDown M who p = eqb (downWord M who p) 1
 -- DONE, with no slot emptied
 abbrev pub done : Change → Post → Effect
 done change post = record { emptied = []; change = change; post = post; answer = coded 0; page = [] }
+
+-- these slots are emptied, and no more
+abbrev pub emptying : List ℕ → ℕ → Page → Effect
+emptying slots code page = record { emptied = slots; change = nothing; post = noPost; answer = coded code; page = page }
 
 -- "Start read: message number plus 1, phase 1, rread to every directory. Start write keeps the page; phase 4, wread to every directory."
 unfoldable pub startEffect : Machine → ℕ → ℕ → Page → Effect

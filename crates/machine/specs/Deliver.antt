@@ -8,7 +8,6 @@ use Rattle.tables.specs.declared.Party.the-variants.{Nobody, AClient, ADirector
 use Rattle.tables.specs.Tables.{Page, Replica, Machine, clientAt, directoryAt, replicaAt, slotAt}
 use Rattle.tables.specs.Kinds.{receiverOf}
 use Rattle.mail.specs.declared.Post.{Post}
-use Rattle.mail.specs.Posts.{noPost}
 use Rattle.rules.specs.declared.Answer.{Answer}
 use Rattle.rules.specs.declared.Outcome.{Outcome}
 use Rattle.rules.specs.declared.Outcome.the-variants.{Waiting, Next, ReadEnded, WriteEnded, Spent, Stale}
@@ -16,8 +15,8 @@ use Rattle.rules.specs.Answers.{coded, answerOf}
 use Rattle.rules.specs.Directory.{directoryAfter, directoryPost}
 use Rattle.rules.specs.Replica.{replicaAfter, replicaPost}
 use Rattle.rules.specs.Client.{outcome, clientAfter, clientPost}
-use Rattle.machine.specs.Calls.{isDown}
-use Rattle.machine.specs.Effects.{Change, nothing, client, directory, replica, Effect}
+use Rattle.machine.specs.Calls.{isDown, emptying}
+use Rattle.machine.specs.Effects.{Change, client, directory, replica, Effect}
 
 -- slot s is emptied
 abbrev pub taken : ℕ → Change → Post → Answer → Page → Effect
@@ -52,7 +51,7 @@ replicaEffect M s x page =
     (replicaPost (M .conf .directories) (r .entries) x) (coded 0) page
 
 abbrev pub received : Party → Machine → ℕ → Message → Page → Effect
-received Nobody M s x page = taken s nothing noPost (coded 0) page
+received Nobody M s x page = emptying (s ∷ []) 0 page
 received AClient M s x page = clientEffect M s x page
 received ADirectory M s x page = directoryEffect M s x page
 received AReplica M s x page = replicaEffect M s x page
@@ -62,5 +61,5 @@ unfoldable pub deliverEffect : Machine → ℕ → Page → Effect
 deliverEffect M s page =
     let x : Message = slotAt M s in
     let who : Party = receiverOf (x .kind) in
-    if isDown M who (x .receiver) then taken s nothing noPost (coded 4) page
+    if isDown M who (x .receiver) then emptying (s ∷ []) 4 page
     else received who M s x page

@@ -1,12 +1,12 @@
 -- A step: the first refusal that applies, else the call's effect. "Codes 16 to 24 change nothing."
-use Rattle.sets.specs.Plain.{not, ℕ, _+_, eqb, if_then_else_}
+use Rattle.sets.specs.Plain.{not, ℕ, _+_, eqb, [], if_then_else_}
 use Rattle.tables.specs.Tables.{Page, noPage, Machine, isEmpty}
 use Rattle.tables.specs.Rows.{count}
 use Rattle.mail.specs.Posts.{noPost}
 use Rattle.rules.specs.declared.Answer.{Answer}
 use Rattle.rules.specs.Answers.{coded}
-use Rattle.machine.specs.Effects.{nothing, anew, Effect, applied}
-use Rattle.machine.specs.Calls.{Call, setUp, startRead, startWrite, deliver, gossip, tidy, crash, report, asks, done, startEffect, gossipEffect, tidyEffect, crashEffect}
+use Rattle.machine.specs.Effects.{anew, Effect, applied}
+use Rattle.machine.specs.Calls.{Call, setUp, startRead, startWrite, deliver, gossip, tidy, crash, report, asks, done, emptying, startEffect, gossipEffect, tidyEffect, crashEffect}
 use Rattle.machine.specs.Deliver.{deliverEffect}
 use Rattle.machine.specs.Refusals.{refusal}
 
@@ -18,7 +18,7 @@ effectOf (deliver s page) M = deliverEffect M s page
 effectOf (gossip from to) M = gossipEffect M from to
 effectOf (tidy r) M = tidyEffect M r
 effectOf (crash kind id) M = crashEffect M kind id
-effectOf report M = done nothing noPost
+effectOf report M = emptying [] 0 []
 
 pub record Result : Type 0 where
   pub answer : Answer

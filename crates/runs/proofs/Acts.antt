@@ -24,7 +24,7 @@ use Rattle.rules.specs.Replica.{tidied, replicaAfter, replicaPost, isFull, goss
 use Rattle.rules.specs.Client.{started, clientAfter, request, clientPost}
 use Rattle.rules.proofs.Views.{View, view}
 use Rattle.machine.specs.Effects.{nothing, client, directory, replica, anew, Effect}
-use Rattle.machine.specs.Calls.{Call, setUp, startRead, startWrite, deliver, gossip, tidy, crash, report, partyOf, asks, isDown, done, downed, startEffect, gossipEffect, tidyEffect, crashEffect}
+use Rattle.machine.specs.Calls.{Call, setUp, startRead, startWrite, deliver, gossip, tidy, crash, report, partyOf, asks, isDown, done, emptying, downed, startEffect, gossipEffect, tidyEffect, crashEffect}
 use Rattle.machine.specs.Deliver.{taken, filled, received, clientEffect, directoryEffect, replicaEffect, deliverEffect}
 use Rattle.machine.specs.Refusals.{isBusy, isWorn}
 use Rattle.machine.specs.Steps.{effectOf, codeOf}
@@ -70,10 +70,6 @@ module _ (M : Machine) where
   answered s x page o =
       taken s (client (x .receiver) (clientAfter (clientAt M (x .receiver)) x o))
       (clientPost (M .conf) (x .receiver) (clientAt M (x .receiver)) (clientAfter (clientAt M (x .receiver)) x o) o) (answerOf (x .receiver) o) (filled o x page)
-
--- these slots are emptied, and no more
-abbrev pub emptying : List ℕ → ℕ → Page → Effect
-emptying slots code page = record { emptied = slots; change = nothing; post = noPost; answer = coded code; page = page }
 
 -- ---- the ways
 
