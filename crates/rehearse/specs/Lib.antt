@@ -1,2 +1,4 @@
--- What the program's turns keep to; no one else reads it.
+-- What the program writes of what it reads: a reader must believe Rehearsal and Pieces. Turns may change with the code.
+pub mod Rehearsal
+pub mod Pieces
 pub mod Turns

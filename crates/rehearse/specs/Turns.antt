@@ -1,18 +1,78 @@
--- A turn of the program over a chunk of so many bytes: the output stays in its buffer, and a turn that met a line took some bytes.
-use Prim.Native.Nat.{ℕ, _≤_, _<_}
+-- What the program's functions promise each other: however far they come in the input, what was written and what is still to come is the output.
+use Prim.Native.Nat.{ℕ, _+_, _≤_, _<_, min}
 use mathlib.Core.Path.{_≡_}
 use mathlib.Core.Bool.{true}
-use mathlib.Core.List.{List}
-use lib.ListN.{length}
+use mathlib.Core.List.{List, [], _++_}
+use lib.ListN.{length, take, drop}
+use Rattle.schedule.specs.declared.Command.{Command}
+use Rattle.schedule.specs.Input.{Held}
+use Rattle.schedule.specs.Inner.{Printed}
 use Rattle.rehearse.specs.declared.State.{State}
-
-pub record Turned (size : ℕ) (s r : State) : Type 0 where
-  pub room : r .at ≤ 65536
-  pub low : s .from ≤ r .from
-  pub high : r .from ≤ size
-  pub further : r .more ≡ true → s .from < r .from
+use Rattle.rehearse.specs.Rehearsal.{callOf, outcomeOf, printed, following}
+use Rattle.rehearse.specs.Pieces.{Stand, ahead, Takes}
 
 -- the buffers of the pending line and the output
 pub record Buffers (l o : List ℕ) : Type 0 where
   pub line : length l ≡ 80
   pub out : length o ≡ 65536
+
+-- a command is answered: the machine is as its call leaves it, and its line stands after the text before it
+pub record Responded (n : ℕ) (c : Command) (m out : List ℕ) (at : ℕ) (m' out' : List ℕ) (r : ℕ) : Type 0 where
+  pub machine : m' ≡ outcomeOf (callOf c) m .buffer
+  pub text : Printed 126 out at (printed n (outcomeOf (callOf c) m)) out' r
+
+-- the same, of the program's state: the next line begins, and there is room for its answer where the state goes on
+pub record Answered (c : Command) (m out : List ℕ) (s : State) (m' out' : List ℕ) (r : State) : Type 0 where
+  pub lines : r .lines ≡ following (s .lines)
+  pub none : r .len ≡ 0
+  pub place : r .from ≡ s .from
+  pub machine : m' ≡ outcomeOf (callOf c) m .buffer
+  pub text : take (r .at) out' ≡ take (s .at) out ++ printed (r .lines) (outcomeOf (callOf c) m)
+  pub room : r .at ≤ 65536
+  pub space : r .on ≡ true → r .at ≤ 65410
+
+abbrev pub stand : State → List ℕ → List ℕ → Stand
+stand s m p = record { lines = s .lines; machine = m; pending = p }
+
+-- from s, with the pending line p, to r over a chunk: the text w and what was to come is the text v and what is now to come,
+-- whatever follows the chunk
+pub record Went (chunk : List ℕ) (s : State) (m w : List ℕ) (r : State) (m' l' v p : List ℕ) : Type 0 where
+  pub pending : List ℕ
+  pub held : Held pending l' (r .len)
+  pub same : (later : List ℕ) → w ++ ahead (stand s m p) (drop (s .from) chunk ++ later) ≡ v ++ ahead (stand r m' pending) (drop (r .from) chunk ++ later)
+
+-- so for every pending line that the buffer l may hold
+pub record Goes (chunk : List ℕ) (s : State) (m l w : List ℕ) (r : State) (m' l' v : List ℕ) : Type 0 where
+  pub low : s .from ≤ r .from
+  pub high : r .from ≤ length chunk
+  pub went : (p : List ℕ) → Held p l (s .len) → Went chunk s m w r m' l' v p
+
+-- over a whole piece of the input, with the pending line p
+pub record Leads (piece text : List ℕ) (s : State) (m : List ℕ) (r : State) (m' l' p : List ℕ) : Type 0 where
+  pub pending : List ℕ
+  pub held : Held pending l' (r .len)
+  pub takes : Takes (stand s m p) piece text (stand r m' pending)
+
+-- a turn: a line and its answer, or the rest of the chunk
+pub record Turned (chunk : List ℕ) (s : State) (m l out : List ℕ) (r : State) (m' l' out' : List ℕ) : Type 0 where
+  pub goes : Goes chunk s m l (take (s .at) out) r m' l' (take (r .at) out')
+  pub some : min (s .from + 1) (length chunk) ≤ r .from
+  pub further : r .on ≡ true → s .from < r .from
+  pub room : r .at ≤ 65536
+  pub space : r .on ≡ true → r .at ≤ 65410
+
+-- turns up to the chunk's end, or until the output is full: it has their answers, and nothing else
+pub record Consumed (chunk : List ℕ) (s : State) (m l : List ℕ) (r : State) (m' l' out' : List ℕ) : Type 0 where
+  pub goes : Goes chunk s m l [] r m' l' (take (r .at) out')
+  pub some : min (s .from + 1) (length chunk) ≤ r .from
+  pub room : r .at ≤ 65536
+
+-- a whole chunk: what was written out of it, one text after the other
+pub record Drained (chunk : List ℕ) (s : State) (m l : List ℕ) (r : State) (m' l' : List ℕ) : Type 0 where
+  pub text : List ℕ
+  pub leads : (p : List ℕ) → Held p l (s .len) → Leads chunk text s m r m' l' p
+
+-- at the input's end: what was still to come stands in the output
+pub record Ended (s : State) (out' : List ℕ) (r : ℕ) : Type 0 where
+  pub room : r ≤ 65536
+  pub text : (p l m : List ℕ) → Held p l (s .len) → take r out' ≡ ahead (stand s m p) []

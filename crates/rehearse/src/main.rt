@@ -1,11 +1,13 @@
 // Runs a schedule: each line of standard input is a call on one machine, answered by a line on standard output.
 ghost use mathlib.Core.Path.{_≡_};
+ghost use mathlib.Core.Bool.{true};
 ghost use Prim.Native.Nat.{_+_, _≤_};
-ghost use mathlib.Core.List.{_∷_};
-ghost use lib.ListN.{length, replicate};
+ghost use lib.ListN.{length};
 ghost use Rattle.schedule.specs.Text.{answerText};
 ghost use Rattle.schedule.specs.Inner.{Printed};
-ghost use Rattle.rehearse.specs.Turns.{Turned, Buffers};
+ghost use Rattle.rehearse.specs.Rehearsal.{pageOf, following};
+ghost use Rattle.rehearse.specs.Pieces.{start};
+ghost use Rattle.rehearse.specs.Turns.{Buffers, Responded, Answered, Turned, Consumed, Drained, Ended};
 use rules::Answer;
 use schedule::Command;
 use schedule::input;
@@ -18,14 +20,13 @@ struct State {
     len: usize, // the pending line's length
     from: usize, // the place in the chunk
     at: usize, // the output's length
-    more: bool, // whether the chunk may have another line
-    on: bool, // whether the program goes on
+    on: bool, // whether it goes on
 }
 
 // "w is the page's first word, the others are zero."
 fn page(w: u32) -> [u32; 16]
     ensures { λ r. ⌜ 16 ≡ length r ⌝ }
-    ensures { λ r. ⌜ r ≡ w ∷ replicate 15 0 ⌝ }
+    ensures { λ r. ⌜ r ≡ pageOf w ⌝ }
 {
     [w, 0, 0, 0, 0, 0, 0, 0, 0, 0, 0, 0, 0, 0, 0, 0]
 }
@@ -42,7 +43,7 @@ fn put(out: &mut [u8], at: usize, line: u64, a: Answer, word: u32) -> usize
 // Makes the call that a command is, and prints its answer.
 fn respond(m: &mut [u32], c: Command, out: &mut [u8], at: usize, line: u64) -> usize
     requires { ⌜ at + 126 ≤ length (now out) ⌝ }
-    ensures { λ r. ⌜ r ≤ at + 126 ⌝ }
+    ensures { λ r. ⌜ Responded line c (now (m .entry)) (now (out .entry)) at (now (m .exit)) (now (out .exit)) r ⌝ }
 {
     match c {
         Command::SetUp(clients, directories, replicas, f, rq, wq, top, w) => {
@@ -75,65 +76,34 @@ fn respond(m: &mut [u32], c: Command, out: &mut [u8], at: usize, line: u64) -> u
     }
 }
 
-// Writes the first bytes of the output; false where that fails.
-fn flush(out: &[u8], at: usize) -> bool
-    requires { ⌜ (length (now out) ≡ 65536) × (at ≤ 65536) ⌝ }
+// The number of the line after k lines.
+fn next(k: u64) -> u64
+    ensures { λ r. ⌜ r ≡ following k ⌝ }
 {
-    io::write_all(1, &out[..at])
-}
-
-// A place with room for one answer more, made by writing out what stands before it; none where that fails.
-fn room(out: &[u8], at: usize) -> usize
-    requires { ⌜ (length (now out) ≡ 65536) × (at ≤ 65536) ⌝ }
-    ensures { λ r. ⌜ r ≤ 65536 ⌝ }
-{
-    if at <= 65410 {
-        return at;
-    }
-    if flush(out, at) {
-        return 0;
-    }
-    at
-}
-
-fn next(k: u64) -> u64 {
     if k < 18446744073709551615 { k + 1 } else { k }
 }
 
-// Answers the pending line.
-fn answer(m: &mut [u32], line: &[u8], out: &mut [u8], s: State) -> State
-    requires { ⌜ Buffers (now line) (now out) ⌝ }
-    requires { ⌜ s .at ≤ 65536 ⌝ }
-    ensures { λ r. ⌜ (r .from ≡ s .from) × (r .at ≤ 65536) ⌝ }
+// Answers a line.
+fn answer(m: &mut [u32], c: Command, out: &mut [u8], s: State) -> State
+    requires { ⌜ (length (now out) ≡ 65536) × (s .at ≤ 65410) ⌝ }
+    ensures { λ r. ⌜ Answered c (now (m .entry)) (now (out .entry)) s (now (m .exit)) (now (out .exit)) r ⌝ }
 {
-    let at = room(out, s.at);
-    if 65410 < at {
-        return State {
-            lines: s.lines,
-            len: 0,
-            from: s.from,
-            at: 0,
-            more: false,
-            on: false,
-        };
-    }
     let lines = next(s.lines);
-    let c = input::command(line, s.len);
+    let at = respond(m, c, out, s.at, lines);
     State {
         lines,
         len: 0,
         from: s.from,
-        at: respond(m, c, out, at, lines),
-        more: true,
-        on: true,
+        at,
+        on: at <= 65410,
     }
 }
 
 // One line, or the rest of the chunk.
 fn turn(m: &mut [u32], line: &mut [u8], out: &mut [u8], chunk: &[u8], s: State) -> State
     requires { ⌜ Buffers (now line) (now out) ⌝ }
-    requires { ⌜ (s .at ≤ 65536) × (s .from ≤ length (now chunk)) ⌝ }
-    ensures { λ r. ⌜ Turned (length (now (chunk .entry))) s r ⌝ }
+    requires { ⌜ (s .at ≤ 65410) × (s .from ≤ length (now chunk)) ⌝ }
+    ensures { λ r. ⌜ Turned (now (chunk .entry)) s (now (m .entry)) (now (line .entry)) (now (out .entry)) r (now (m .exit)) (now (line .exit)) (now (out .exit)) ⌝ }
 {
     let f = input::feed(line, s.len, chunk, s.from);
     let ended = f.ended;
@@ -142,73 +112,88 @@ fn turn(m: &mut [u32], line: &mut [u8], out: &mut [u8], chunk: &[u8], s: State) 
         len: f.len,
         from: f.at,
         at: s.at,
-        more: false,
-        on: true,
+        on: false,
     };
     if ended {
-        return answer(m, line, out, t);
+        return answer(m, input::command(line, f.len), out, t);
     }
     t
 }
 
-// All of a chunk.
+// The lines of a chunk from a place on, until it ends or the output is full.
 fn consume(m: &mut [u32], line: &mut [u8], out: &mut [u8], chunk: &[u8], s0: State) -> State
     requires { ⌜ Buffers (now line) (now out) ⌝ }
-    ensures { λ r. ⌜ r .at ≤ 65536 ⌝ }
+    requires { ⌜ s0 .from ≤ length (now chunk) ⌝ }
+    ensures { λ r. ⌜ Consumed (now (chunk .entry)) s0 (now (m .entry)) (now (line .entry)) r (now (m .exit)) (now (line .exit)) (now (out .exit)) ⌝ }
+{
+    let mut s = State {
+        lines: s0.lines,
+        len: s0.len,
+        from: s0.from,
+        at: 0,
+        on: true,
+    };
+    while s.on {
+        s = turn(m, line, out, chunk, s);
+    }
+    s
+}
+
+// Writes the first bytes of the output; false where that fails.
+fn flush(out: &[u8], at: usize) -> bool
+    requires { ⌜ (length (now out) ≡ 65536) × (at ≤ 65536) ⌝ }
+{
+    io::write_all(1, &out[..at])
+}
+
+// The same, and writes their answers out: where that fails it does not go on.
+fn pass(m: &mut [u32], line: &mut [u8], out: &mut [u8], chunk: &[u8], s: State) -> State
+    requires { ⌜ Buffers (now line) (now out) ⌝ }
+    requires { ⌜ s .from ≤ length (now chunk) ⌝ }
+    ensures { λ r. ⌜ Consumed (now (chunk .entry)) s (now (m .entry)) (now (line .entry)) r (now (m .exit)) (now (line .exit)) (now (out .exit)) ⌝ }
+{
+    let t = consume(m, line, out, chunk, s);
+    State {
+        lines: t.lines,
+        len: t.len,
+        from: t.from,
+        at: t.at,
+        on: flush(out, t.at),
+    }
+}
+
+// All of a chunk.
+fn drain(m: &mut [u32], line: &mut [u8], out: &mut [u8], chunk: &[u8], s0: State) -> State
+    requires { ⌜ Buffers (now line) (now out) ⌝ }
+    ensures { λ r. ⌜ (r .on ≡ true → Drained (now (chunk .entry)) s0 (now (m .entry)) (now (line .entry)) r (now (m .exit)) (now (line .exit))) ⌝ }
 {
     let mut s = State {
         lines: s0.lines,
         len: s0.len,
         from: 0,
         at: 0,
-        more: true,
         on: true,
     };
-    while s.more {
-        s = turn(m, line, out, chunk, s);
+    while s.on && s.from < chunk.len() {
+        s = pass(m, line, out, chunk, s);
     }
     s
 }
 
-// One read of the input, its lines, and one write of their answers, or more where they are long.
-fn pump(m: &mut [u32], line: &mut [u8], out: &mut [u8], chunk: &mut [u8], s: State) -> State
-    requires { ⌜ Buffers (now line) (now out) ⌝ }
-{
-    let got = libc::read(0, chunk);
-    if got <= 0 {
-        return State {
-            lines: s.lines,
-            len: s.len,
-            from: 0,
-            at: 0,
-            more: false,
-            on: false,
-        };
-    }
-    let n = io::count(got, chunk);
-    let t = consume(m, line, out, &chunk[..n], s);
-    let written = flush(out, t.at);
-    State {
-        lines: t.lines,
-        len: if written { t.len } else { 0 },
-        from: 0,
-        at: 0,
-        more: false,
-        on: t.on & written,
-    }
-}
-
-// The answer to a last line without its end.
-fn finish(out: &mut [u8], s: State)
+// The answer to a last line without its end, and its length.
+fn ending(out: &mut [u8], s: State) -> usize
     requires { ⌜ length (now out) ≡ 65536 ⌝ }
+    ensures { λ r. ⌜ Ended s (now (out .exit)) r ⌝ }
 {
     if input::is_unfinished(s.len) {
-        let at = printing::put_malformed(out, 0, next(s.lines));
-        flush(out, at);
+        return printing::put_malformed(out, 0, next(s.lines));
     }
+    0
 }
 
+// Reads the input piece by piece, up to its end.
 fn run(m: &mut [u32], line: &mut [u8], out: &mut [u8], chunk: &mut [u8])
+    requires { ⌜ now m ≡ start .machine ⌝ }
     requires { ⌜ Buffers (now line) (now out) ⌝ }
 {
     let mut turns = u64::MAX;
@@ -217,14 +202,19 @@ fn run(m: &mut [u32], line: &mut [u8], out: &mut [u8], chunk: &mut [u8])
         len: 0,
         from: 0,
         at: 0,
-        more: false,
         on: true,
     };
     while turns > 0 && s.on {
-        s = pump(m, line, out, chunk, s);
+        let got = libc::read(0, chunk);
+        if got <= 0 {
+            let at = ending(out, s);
+            flush(out, at);
+            return;
+        }
+        let n = io::count(got, chunk);
+        s = drain(m, line, out, &chunk[..n], s);
         turns -= 1;
     }
-    finish(out, s);
 }
 
 fn main() {

@@ -1,0 +1,47 @@
+-- Whatever the pieces in which the input comes, what the program writes is the rehearsal of it.
+use mathlib.Core.Path.{_≡_, refl, sym, ap, _∙_}
+use mathlib.Core.List.{List, [], _++_, append-nil, append-assoc}
+use lib.ListN.{take, replicate}
+use Rattle.sets.specs.Plain.{ℕ}
+use Rattle.schedule.specs.Input.{Held}
+use Rattle.schedule.proofs.Pending.{held-none}
+use Rattle.rehearse.specs.declared.State.{State}
+use Rattle.rehearse.specs.Rehearsal.{rehearsal}
+use Rattle.rehearse.specs.Pieces.{Stand, start, ahead, Takes, Taken, nothing, more}
+use Rattle.rehearse.specs.Turns.{stand, Drained, Ended}
+
+-- pieces one after the other are one piece
+pub joined : (a : Stand) {l w : List ℕ} {b : Stand} → Taken a l w b → Takes a l w b
+joined a nothing = record { same = λ later. refl }
+joined a (more {l} {w} {b} {c} piece text h t) =
+    record {
+      same = λ later.
+          rw (append-assoc l piece later)
+          (joined a h .same (piece ++ later) ∙ ap (λ (z : List ℕ). w ++ z) (t .same later) ∙ sym (append-assoc w text (ahead c later)));
+    }
+
+-- all that was written, and the answer to a last line without its end
+pub whole : {l w : List ℕ} {b : Stand} → Taken start l w b → rehearsal l ≡ w ++ ahead b []
+unfolding rehearsal ahead
+whole {l} h = rw (append-nil l) at (joined start h .same [])
+
+-- the program after an input, in which it wrote a text
+pub record Reached (l w m line : List ℕ) (s : State) : Type 0 where
+  pub pending : List ℕ
+  pub held : Held pending line (s .len)
+  pub taken : Taken start l w (stand s m pending)
+
+-- at the start
+pub starts : (line : List ℕ) (s : State) → s .lines ≡ 0 → s .len ≡ 0 → Reached [] [] (replicate 4992 0) line s
+starts line s e f = record { pending = []; held = rw f (held-none line); taken = rw e nothing }
+
+-- after a chunk
+pub reads-on : (l w m line : List ℕ) (s : State) (chunk : List ℕ) (r : State) (m' line' : List ℕ) → Reached l w m line s
+    → (d : Drained chunk s m line r m' line') → Reached (l ++ chunk) (w ++ d .text) m' line' r
+reads-on l w m line s chunk r m' line' g d =
+    let k = d .leads (g .pending) (g .held) in
+    record { pending = k .pending; held = k .held; taken = more chunk (d .text) (g .taken) (k .takes) }
+
+-- at the end
+pub ends : (l w m line : List ℕ) (s : State) (out : List ℕ) (r : ℕ) → Reached l w m line s → Ended s out r → rehearsal l ≡ w ++ take r out
+ends l w m line s out r g e = whole (g .taken) ∙ ap (λ (z : List ℕ). w ++ z) (sym (e .text (g .pending) line m (g .held)))
