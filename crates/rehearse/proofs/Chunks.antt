@@ -1,22 +1,20 @@
 -- Whole chunks, and the input's end.
-use Prim.Native.Nat.{ℕ, _+_, _-_, _≤_, _<_, min}
 use mathlib.Core.Path.{_≡_, refl, sym, ap, _∙_}
 use mathlib.Core.Bool.{Bool, true, false}
-use mathlib.Core.List.{List, [], _∷_, _++_, append-nil}
+use mathlib.Core.List.{List, [], _++_, append-nil}
+use Prim.Native.Nat.{ℕ, _-_, _≤_, _<_}
 use native.Mathlib.Omega.{arith}
+use borrow.Author.Tests.{ltb-true, ltb-false}
 use lib.ListN.{length, take, drop}
 use lib.Seq.{drop-length}
 use lib.Dec.{ltb}
-use borrow.Author.Tests.{ltb-true, ltb-false}
-use Rattle.schedule.specs.declared.Command.{Command}
-use Rattle.schedule.specs.declared.Command.the-variants.{Malformed}
 use Rattle.schedule.specs.Text.{answerText}
 use Rattle.schedule.specs.Input.{Held, commandsFrom, unfinished, malformedIf}
 use Rattle.schedule.specs.Inner.{Printed}
 use Rattle.rehearse.specs.declared.State.{State}
 use Rattle.rehearse.specs.Rehearsal.{printed, following, outputOf}
 use Rattle.rehearse.specs.Pieces.{ahead}
-use Rattle.rehearse.specs.Turns.{stand, Goes, Consumed, Drained, Ended}
+use Rattle.rehearse.specs.Turns.{Goes, Consumed, Drained, Ended}
 use Rattle.rehearse.proofs.Turns.{goes-anew, goes-none, with, goes-with}
 
 -- lines that are written out
@@ -63,9 +61,9 @@ drained chunk s m l r m' l' g h y =
     let z : drop (r .from) chunk ≡ [] = ap (λ (k : ℕ). drop k chunk) e ∙ drop-length chunk in
     record {
       text = g .text;
-      leads = λ p k.
+      went = λ p k.
           let b = g .goes .went p k in
-          record { pending = b .pending; held = b .held; takes = record { same = λ later. rw z at (b .same later) } };
+          record { pending = b .pending; held = b .held; same = λ later. rw z at (b .same later) };
     }
 
 pub stopped : (chunk : List ℕ) (s : State) (m l : List ℕ) (r : State) (m' l' : List ℕ) → r .on ≡ false → r .on ≡ true → Drained chunk s m l r m' l'

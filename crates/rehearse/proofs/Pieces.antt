@@ -1,14 +1,14 @@
 -- Whatever the pieces in which the input comes, what the program writes is the rehearsal of it.
 use mathlib.Core.Path.{_≡_, refl, sym, ap, _∙_}
 use mathlib.Core.List.{List, [], _++_, append-nil, append-assoc}
-use lib.ListN.{take, replicate}
+use lib.ListN.{take}
 use Rattle.sets.specs.Plain.{ℕ}
 use Rattle.schedule.specs.Input.{Held}
 use Rattle.schedule.proofs.Pending.{held-none}
 use Rattle.rehearse.specs.declared.State.{State}
 use Rattle.rehearse.specs.Rehearsal.{rehearsal}
 use Rattle.rehearse.specs.Pieces.{Stand, start, ahead, Takes, Taken, nothing, more}
-use Rattle.rehearse.specs.Turns.{stand, Drained, Ended}
+use Rattle.rehearse.specs.Turns.{stand, Drained, Fresh, Ended}
 
 -- pieces one after the other are one piece
 pub joined : (a : Stand) {l w : List ℕ} {b : Stand} → Taken a l w b → Takes a l w b
@@ -32,15 +32,15 @@ pub record Reached (l w m line : List ℕ) (s : State) : Type 0 where
   pub taken : Taken start l w (stand s m pending)
 
 -- at the start
-pub starts : (line : List ℕ) (s : State) → s .lines ≡ 0 → s .len ≡ 0 → Reached [] [] (replicate 4992 0) line s
-starts line s e f = record { pending = []; held = rw f (held-none line); taken = rw e nothing }
+pub starts : (line : List ℕ) (s : State) → Fresh s → Reached [] [] (start .machine) line s
+starts line s f = record { pending = []; held = rw (f .none) (held-none line); taken = rw (f .lines) nothing }
 
 -- after a chunk
 pub reads-on : (l w m line : List ℕ) (s : State) (chunk : List ℕ) (r : State) (m' line' : List ℕ) → Reached l w m line s
     → (d : Drained chunk s m line r m' line') → Reached (l ++ chunk) (w ++ d .text) m' line' r
 reads-on l w m line s chunk r m' line' g d =
-    let k = d .leads (g .pending) (g .held) in
-    record { pending = k .pending; held = k .held; taken = more chunk (d .text) (g .taken) (k .takes) }
+    let k = d .went (g .pending) (g .held) in
+    record { pending = k .pending; held = k .held; taken = more chunk (d .text) (g .taken) (record { same = k .same }) }
 
 -- at the end
 pub ends : (l w m line : List ℕ) (s : State) (out : List ℕ) (r : ℕ) → Reached l w m line s → Ended s out r → rehearsal l ≡ w ++ take r out

@@ -1,8 +1,8 @@
 -- Turns over a chunk: each meets a line end or the chunk's end, and what was to come goes on.
-use Prim.Native.Nat.{ℕ, _+_, _-_, _≤_, _<_, min}
 use mathlib.Core.Path.{_≡_, refl, sym, ap, _∙_}
 use mathlib.Core.Bool.{Bool, true, false}
 use mathlib.Core.List.{List, [], _∷_, _++_, append-assoc}
+use Prim.Native.Nat.{ℕ, _+_, _-_, _≤_, _<_, min}
 use native.Mathlib.Omega.{arith}
 use lib.ListN.{length, take, drop}
 use lib.Seq.{length-take-le}
@@ -13,9 +13,9 @@ use Rattle.schedule.specs.Lines.{commandOf}
 use Rattle.schedule.specs.Input.{Held, FedOn, commandsFrom}
 use Rattle.schedule.proofs.Pending.{held-none}
 use Rattle.rehearse.specs.declared.State.{State}
-use Rattle.rehearse.specs.Rehearsal.{callOf, outcomeOf, printed, following, outputOf}
+use Rattle.rehearse.specs.Rehearsal.{callOf, outcomeOf, printed, outputOf}
 use Rattle.rehearse.specs.Pieces.{ahead}
-use Rattle.rehearse.specs.Turns.{Answered, stand, Went, Goes, Turned, Consumed}
+use Rattle.rehearse.specs.Turns.{Answered, stand, Goes, Turned, Consumed}
 
 -- the part that is written out
 pub part : (out : List ℕ) (at : ℕ) → length out ≡ 65536 → at ≤ 65536 → at ≡ length (take at out)

@@ -1,6 +1,6 @@
 -- The input comes in pieces. Where the program stands between two of them, and what it then has still to write.
 use mathlib.Core.Path.{_≡_}
-use Rattle.sets.specs.Plain.{List, [], _∷_, _++_, ℕ, replicate}
+use Rattle.sets.specs.Plain.{List, [], _++_, ℕ, replicate}
 use Rattle.schedule.specs.Input.{commandsFrom}
 use Rattle.rehearse.specs.Rehearsal.{outputOf}
 

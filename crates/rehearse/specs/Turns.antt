@@ -1,15 +1,15 @@
 -- What the program's functions promise each other: however far they come in the input, what was written and what is still to come is the output.
-use Prim.Native.Nat.{ℕ, _+_, _≤_, _<_, min}
 use mathlib.Core.Path.{_≡_}
 use mathlib.Core.Bool.{true}
 use mathlib.Core.List.{List, [], _++_}
+use Prim.Native.Nat.{ℕ, _+_, _≤_, _<_, min}
 use lib.ListN.{length, take, drop}
 use Rattle.schedule.specs.declared.Command.{Command}
 use Rattle.schedule.specs.Input.{Held}
 use Rattle.schedule.specs.Inner.{Printed}
 use Rattle.rehearse.specs.declared.State.{State}
 use Rattle.rehearse.specs.Rehearsal.{callOf, outcomeOf, printed, following}
-use Rattle.rehearse.specs.Pieces.{Stand, ahead, Takes}
+use Rattle.rehearse.specs.Pieces.{Stand, ahead}
 
 -- the buffers of the pending line and the output
 pub record Buffers (l o : List ℕ) : Type 0 where
@@ -34,24 +34,17 @@ pub record Answered (c : Command) (m out : List ℕ) (s : State) (m' out' : List
 abbrev pub stand : State → List ℕ → List ℕ → Stand
 stand s m p = record { lines = s .lines; machine = m; pending = p }
 
--- from s, with the pending line p, to r over a chunk: the text w and what was to come is the text v and what is now to come,
--- whatever follows the chunk
-pub record Went (chunk : List ℕ) (s : State) (m w : List ℕ) (r : State) (m' l' v p : List ℕ) : Type 0 where
+-- from a to r: the text w and then the output of the input i is the text v and then that of the input i', whatever comes later
+pub record Went (a : Stand) (w i : List ℕ) (r : State) (m' l' v i' : List ℕ) : Type 0 where
   pub pending : List ℕ
   pub held : Held pending l' (r .len)
-  pub same : (later : List ℕ) → w ++ ahead (stand s m p) (drop (s .from) chunk ++ later) ≡ v ++ ahead (stand r m' pending) (drop (r .from) chunk ++ later)
+  pub same : (later : List ℕ) → w ++ ahead a (i ++ later) ≡ v ++ ahead (stand r m' pending) (i' ++ later)
 
--- so for every pending line that the buffer l may hold
+-- over a chunk, for every pending line that the buffer l may hold
 pub record Goes (chunk : List ℕ) (s : State) (m l w : List ℕ) (r : State) (m' l' v : List ℕ) : Type 0 where
   pub low : s .from ≤ r .from
   pub high : r .from ≤ length chunk
-  pub went : (p : List ℕ) → Held p l (s .len) → Went chunk s m w r m' l' v p
-
--- over a whole piece of the input, with the pending line p
-pub record Leads (piece text : List ℕ) (s : State) (m : List ℕ) (r : State) (m' l' p : List ℕ) : Type 0 where
-  pub pending : List ℕ
-  pub held : Held pending l' (r .len)
-  pub takes : Takes (stand s m p) piece text (stand r m' pending)
+  pub went : (p : List ℕ) → Held p l (s .len) → Went (stand s m p) w (drop (s .from) chunk) r m' l' v (drop (r .from) chunk)
 
 -- a turn: a line and its answer, or the rest of the chunk
 pub record Turned (chunk : List ℕ) (s : State) (m l out : List ℕ) (r : State) (m' l' out' : List ℕ) : Type 0 where
@@ -67,10 +60,15 @@ pub record Consumed (chunk : List ℕ) (s : State) (m l : List ℕ) (r : State) 
   pub some : min (s .from + 1) (length chunk) ≤ r .from
   pub room : r .at ≤ 65536
 
--- a whole chunk: what was written out of it, one text after the other
+-- a whole chunk: the text is what was written out, one output after the other (no other text fits)
 pub record Drained (chunk : List ℕ) (s : State) (m l : List ℕ) (r : State) (m' l' : List ℕ) : Type 0 where
   pub text : List ℕ
-  pub leads : (p : List ℕ) → Held p l (s .len) → Leads chunk text s m r m' l' p
+  pub went : (p : List ℕ) → Held p l (s .len) → Went (stand s m p) [] chunk r m' l' text []
+
+-- before the first line
+pub record Fresh (s : State) : Type 0 where
+  pub lines : s .lines ≡ 0
+  pub none : s .len ≡ 0
 
 -- at the input's end: what was still to come stands in the output
 pub record Ended (s : State) (out' : List ℕ) (r : ℕ) : Type 0 where

@@ -7,7 +7,7 @@ ghost use Rattle.schedule.specs.Text.{answerText};
 ghost use Rattle.schedule.specs.Inner.{Printed};
 ghost use Rattle.rehearse.specs.Rehearsal.{pageOf, following};
 ghost use Rattle.rehearse.specs.Pieces.{start};
-ghost use Rattle.rehearse.specs.Turns.{Buffers, Responded, Answered, Turned, Consumed, Drained, Ended};
+ghost use Rattle.rehearse.specs.Turns.{Buffers, Responded, Answered, Turned, Consumed, Drained, Fresh, Ended};
 use rules::Answer;
 use schedule::Command;
 use schedule::input;
@@ -191,19 +191,26 @@ fn ending(out: &mut [u8], s: State) -> usize
     0
 }
 
-// Reads the input piece by piece, up to its end.
-fn run(m: &mut [u32], line: &mut [u8], out: &mut [u8], chunk: &mut [u8])
-    requires { ⌜ now m ≡ start .machine ⌝ }
-    requires { ⌜ Buffers (now line) (now out) ⌝ }
+// Before the first line.
+fn fresh() -> State
+    ensures { λ r. ⌜ Fresh r ⌝ }
 {
-    let mut turns = u64::MAX;
-    let mut s = State {
+    State {
         lines: 0,
         len: 0,
         from: 0,
         at: 0,
         on: true,
-    };
+    }
+}
+
+// Reads the input piece by piece, up to its end. That `chunk` has what is read, and `out` what is written, is the C library's.
+fn run(m: &mut [u32], line: &mut [u8], out: &mut [u8], chunk: &mut [u8])
+    requires { ⌜ now m ≡ start .machine ⌝ }
+    requires { ⌜ Buffers (now line) (now out) ⌝ }
+{
+    let mut turns = u64::MAX;
+    let mut s = fresh();
     while turns > 0 && s.on {
         let got = libc::read(0, chunk);
         if got <= 0 {

@@ -1,5 +1,5 @@
-use Prim.Native.Nat.{_+_, _-_}
 use mathlib.Core.Path.{_≡_}
+use Prim.Native.Nat.{_+_, _-_}
 use borrow.Author.Needs.{needs}
 use lib.ListN.{length}
 use Rattle.sets.specs.Plain.{if_then_else_}
@@ -17,5 +17,5 @@ abbrev μ-loop : tie.MeasureT-loop
 pub consume-spec : {M : Type 1} → statement M
 consume-spec =
     tie.close
-    (tie.spec Inv-loop μ-loop (λ c. (search needs, search needs, search needs, search no-turn)) (λ c κs. (search needs, search (needs, has-space))) (λ c. search less) (λ c. (search needs, search needs, search needs, search one-turn)) (λ c. search needs)
+    (tie.spec Inv-loop μ-loop (λ c. (search needs, search needs, search needs, search (needs, no-turn))) (λ c κs. (search needs, search (needs, has-space))) (λ c. search less) (λ c. (search needs, search needs, search needs, search one-turn)) (λ c. search needs)
     (λ c. search needs) (λ c. search needs) (λ c. search consumed))

@@ -1,5 +1,5 @@
-use Prim.Native.Nat.{_-_}
 use mathlib.Core.Path.{_≡_}
+use Prim.Native.Nat.{_-_}
 use borrow.Author.Needs.{needs}
 use lib.ListN.{length}
 use Rattle.rehearse.proofs.Chunks.{Written, no-pass, within, one-pass, fewer, drained, stopped}
