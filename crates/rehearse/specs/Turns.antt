@@ -40,7 +40,7 @@ pub record Went (a : Stand) (w i : List ℕ) (r : State) (m' l' v i' : List ℕ)
   pub held : Held pending l' (r .len)
   pub same : (later : List ℕ) → w ++ ahead a (i ++ later) ≡ v ++ ahead (stand r m' pending) (i' ++ later)
 
--- over a chunk, for every pending line that the buffer l may hold
+-- the same over a chunk, for every pending line that the buffer l may hold
 pub record Goes (chunk : List ℕ) (s : State) (m l w : List ℕ) (r : State) (m' l' v : List ℕ) : Type 0 where
   pub low : s .from ≤ r .from
   pub high : r .from ≤ length chunk
@@ -60,7 +60,7 @@ pub record Consumed (chunk : List ℕ) (s : State) (m l : List ℕ) (r : State) 
   pub some : min (s .from + 1) (length chunk) ≤ r .from
   pub room : r .at ≤ 65536
 
--- a whole chunk: the text is what was written out, one output after the other (no other text fits)
+-- a whole chunk: the text is what was written out, one output after the other
 pub record Drained (chunk : List ℕ) (s : State) (m l : List ℕ) (r : State) (m' l' : List ℕ) : Type 0 where
   pub text : List ℕ
   pub went : (p : List ℕ) → Held p l (s .len) → Went (stand s m p) [] chunk r m' l' text []
