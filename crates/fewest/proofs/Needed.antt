@@ -12,7 +12,7 @@ use Rattle.mail.specs.Posts.{messagesOf}
 use Rattle.inspect.specs.Good.{goodNumbers}
 use Rattle.rules.specs.Quorums.{enoughToRead, enoughToWrite}
 use Rattle.rules.specs.Directory.{directoryAfter, directoryPost}
-use Rattle.rules.specs.Replica.{entryWith, raised, highest, secure, write, hearGossip, read, tidied, replicaAfter, replicaPost, isFull, gossipPost}
+use Rattle.rules.specs.Replica.{entryWith, higherOf, highest, secure, write, hearGossip, read, tidied, replicaAfter, replicaPost, isFull, gossipPost}
 use Rattle.rules.specs.Client.{awaited, enoughFor, isStale, heard, chosen, turned, outcome, clientAfter, request, secures, clientPost}
 use Rattle.machine.specs.SetUp.{newMachine}
 use Rattle.machine.specs.Calls.{Call, startRead, startWrite, gossip, crash, partyOf, startEffect, gossipEffect, tidyEffect, crashEffect}
@@ -68,7 +68,7 @@ pub record Needed : Type 0 where
   pub below : WriteHangs 10 1 (madeOf 4 1 1 1 1 3 (written 2 ++ written 3 ++ written 4)) (1 ∷ 1 ∷ [])
 
 pub needed : Needed
-unfolding ones onesIn against senderOf receiverOf noPage noClient noDirectory noEntry noReplica noMessage goodNumbers messagesOf enoughToRead enoughToWrite directoryAfter directoryPost entryWith raised highest secure write hearGossip read tidied replicaAfter replicaPost isFull gossipPost awaited enoughFor isStale heard chosen turned outcome clientAfter request secures clientPost partyOf startEffect gossipEffect tidyEffect crashEffect clientEffect directoryEffect replicaEffect deliverEffect refusal newMachine effectOf step
+unfolding ones onesIn against senderOf receiverOf noPage noClient noDirectory noEntry noReplica noMessage goodNumbers messagesOf enoughToRead enoughToWrite directoryAfter directoryPost entryWith higherOf highest secure write hearGossip read tidied replicaAfter replicaPost isFull gossipPost awaited enoughFor isStale heard chosen turned outcome clientAfter request secures clientPost partyOf startEffect gossipEffect tidyEffect crashEffect clientEffect directoryEffect replicaEffect deliverEffect refusal newMachine effectOf step
 needed =
     record {
       client = (refl, refl, record { unended = refl; stuck = refl });

@@ -21,7 +21,7 @@ use Rattle.rules.specs.Answers.{answer, coded}
 use Rattle.mail.specs.Posts.{messagesOf}
 use Rattle.rules.specs.Quorums.{enoughToRead, enoughToWrite}
 use Rattle.rules.specs.Directory.{directoryAfter, directoryPost}
-use Rattle.rules.specs.Replica.{entryWith, raised, highest, secure, write, read, replicaAfter, replicaPost, isFull}
+use Rattle.rules.specs.Replica.{entryWith, higherOf, highest, secure, write, read, replicaAfter, replicaPost, isFull}
 use Rattle.rules.specs.Client.{awaited, enoughFor, isStale, heard, chosen, turned, outcome, clientAfter, request, secures, clientPost}
 use Rattle.machine.specs.Calls.{Call, setUp, startRead, startWrite, deliver, startEffect}
 use Rattle.machine.specs.Deliver.{clientEffect, directoryEffect, replicaEffect, deliverEffect}
@@ -75,7 +75,7 @@ answered =
 
 -- in either layout
 answers-are : (answers base (start base) rehearsal ≡ answered) × (answers wide (start wide) rehearsal ≡ answered)
-unfolding answers call good goodMachine clientRow directoryRow replicaRow slotRow goodClient goodDirectory goodEntry goodReplica goodMessage tagsOnce zeros rowsWords rowsOf clientsOf directoriesOf slotsOf joined confWords clientWords directoryWords downWords entryWords replicaWords messageWords confOf clientOf directoryOf entryOf messageOf entriesOf replicasOf blocks words machineOf rehearsal ones onesIn against senderOf receiverOf noPage noClient noDirectory noEntry noReplica noMessage goodNumbers messagesOf enoughToRead enoughToWrite directoryAfter directoryPost entryWith raised highest secure write read replicaAfter replicaPost isFull awaited enoughFor isStale heard chosen turned outcome clientAfter request secures clientPost startEffect clientEffect directoryEffect replicaEffect deliverEffect refusal newMachine effectOf step
+unfolding answers call good goodMachine clientRow directoryRow replicaRow slotRow goodClient goodDirectory goodEntry goodReplica goodMessage tagsOnce zeros rowsWords rowsOf clientsOf directoriesOf slotsOf joined confWords clientWords directoryWords downWords entryWords replicaWords messageWords confOf clientOf directoryOf entryOf messageOf entriesOf replicasOf blocks words machineOf rehearsal ones onesIn against senderOf receiverOf noPage noClient noDirectory noEntry noReplica noMessage goodNumbers messagesOf enoughToRead enoughToWrite directoryAfter directoryPost entryWith higherOf highest secure write read replicaAfter replicaPost isFull awaited enoughFor isStale heard chosen turned outcome clientAfter request secures clientPost startEffect clientEffect directoryEffect replicaEffect deliverEffect refusal newMachine effectOf step
 answers-are = (refl, refl)
 
 rehearsed : (lay : Layout) → answers lay (start lay) rehearsal ≡ answered

@@ -15,7 +15,7 @@ use Rattle.mail.specs.Posts.{messagesOf}
 use Rattle.inspect.specs.Good.{goodNumbers}
 use Rattle.rules.specs.Quorums.{enoughToRead, enoughToWrite}
 use Rattle.rules.specs.Directory.{directoryAfter, directoryPost}
-use Rattle.rules.specs.Replica.{entryWith, raised, highest, secure, write, hearGossip, read, tidied, replicaAfter, replicaPost, isFull, gossipPost}
+use Rattle.rules.specs.Replica.{entryWith, higherOf, highest, secure, write, hearGossip, read, tidied, replicaAfter, replicaPost, isFull, gossipPost}
 use Rattle.rules.specs.Client.{awaited, enoughFor, isStale, heard, chosen, turned, outcome, clientAfter, request, secures, clientPost}
 use Rattle.machine.specs.SetUp.{newMachine}
 use Rattle.machine.specs.Calls.{Call, setUp, startRead, startWrite, deliver, partyOf, startEffect, gossipEffect, tidyEffect, crashEffect}
@@ -57,5 +57,5 @@ quiet = 0 ∷ 0 ∷ 0 ∷ 0 ∷ 0 ∷ []
 pub rehearsed : lines (machineOf base (replicate 4992 0)) schedule
     ≡ quiet ∷ quiet ∷ quiet ∷ quiet ∷ quiet ∷ quiet ∷ quiet ∷ (2 ∷ 1 ∷ 1 ∷ 1 ∷ 0 ∷ [])
     ∷ quiet ∷ quiet ∷ quiet ∷ quiet ∷ quiet ∷ quiet ∷ (1 ∷ 1 ∷ 1 ∷ 1 ∷ 9 ∷ []) ∷ (21 ∷ 0 ∷ 0 ∷ 0 ∷ 0 ∷ []) ∷ []
-unfolding machineOf clientsOf directoriesOf slotsOf confOf clientOf directoryOf entryOf messageOf entriesOf replicasOf rowsOf lines schedule ones onesIn against senderOf receiverOf noPage noClient noDirectory noEntry noReplica noMessage goodNumbers messagesOf enoughToRead enoughToWrite directoryAfter directoryPost entryWith raised highest secure write hearGossip read tidied replicaAfter replicaPost isFull gossipPost awaited enoughFor isStale heard chosen turned outcome clientAfter request secures clientPost partyOf startEffect gossipEffect tidyEffect crashEffect clientEffect directoryEffect replicaEffect deliverEffect refusal newMachine effectOf step
+unfolding machineOf clientsOf directoriesOf slotsOf confOf clientOf directoryOf entryOf messageOf entriesOf replicasOf rowsOf lines schedule ones onesIn against senderOf receiverOf noPage noClient noDirectory noEntry noReplica noMessage goodNumbers messagesOf enoughToRead enoughToWrite directoryAfter directoryPost entryWith higherOf highest secure write hearGossip read tidied replicaAfter replicaPost isFull gossipPost awaited enoughFor isStale heard chosen turned outcome clientAfter request secures clientPost partyOf startEffect gossipEffect tidyEffect crashEffect clientEffect directoryEffect replicaEffect deliverEffect refusal newMachine effectOf step
 rehearsed = refl

@@ -17,7 +17,7 @@ use Rattle.tables.specs.Machines.{entryOf, entriesOf}
 use Rattle.tables.proofs.Lists.{some-before}
 use Rattle.tables.proofs.Loops.{turn, no-more}
 use Rattle.tables.proofs.Read.{entries-many}
-use Rattle.rules.specs.Replica.{there, entryWith, raised, highest, secured, secure}
+use Rattle.rules.specs.Replica.{there, entryWith, higherOf, highest, secured, secure}
 use Rattle.rules.proofs.Stock.{entry-got}
 
 -- ---- the entry with a tag
@@ -67,7 +67,7 @@ unfolding highest
 highest-none l t e = e ∙ rw (no-more (entriesOf l) 12 (entries-many l) 12 (omega arith))
 
 pub highest-more : (l : List ℕ) (j : ℕ) (t r : Tag) (e : Entry) → 0 < j → j ≤ 12 → t ≡ highest (drop j (entriesOf l))
-    → e ≡ entryOf (take (length l - (j - 1) * 20) (drop ((j - 1) * 20) l)) → r ≡ raised t e → r ≡ highest (drop (j - 1) (entriesOf l))
+    → e ≡ entryOf (take (length l - (j - 1) * 20) (drop ((j - 1) * 20) l)) → r ≡ higherOf t e → r ≡ highest (drop (j - 1) (entriesOf l))
 unfolding highest
 highest-more l j t r e h k f g q =
     let b : j - 1 + 1 ≡ j = omega arith in

@@ -14,7 +14,7 @@ use Rattle.tables.specs.Rows.{some?}
 use Rattle.tables.specs.Tables.{noEntry, isSecured}
 use Rattle.tables.proofs.All.{All, none, cons, all-map}
 use Rattle.tables.proofs.Lists.{none-passes, all-mapped}
-use Rattle.rules.specs.Replica.{raised, highest, freeBelow, tidied}
+use Rattle.rules.specs.Replica.{higherOf, highest, freeBelow, tidied}
 
 -- an entry that is secured has a tag that is at most u
 abbrev pub Below : Tag → Entry → Type 0
@@ -27,40 +27,40 @@ blank-below u s = absurd s
 -- ---- the higher of a tag and an entry's
 
 module _ (t : Tag) (e : Entry) where
-  raised-ind : (P : Tag → Type 0) → (T (isSecured e) → t ≺ e .tag → P (e .tag)) → (Below t e → P t) → P (raised t e)
-  unfolding raised
-  raised-ind P f g =
+  higher-ind : (P : Tag → Type 0) → (T (isSecured e) → t ≺ e .tag → P (e .tag)) → (Below t e → P t) → P (higherOf t e)
+  unfolding higherOf
+  higher-ind P f g =
       if-ind P (isSecured e && lower t (e .tag))
       (λ h. let q = and-elim (isSecured e) (lower t (e .tag)) h in f (q .0) (lower→≺ t (e .tag) (q .1)))
       (λ h. g (λ s. ⊎-elim (λ n. absurd (T-not (isSecured e) n s)) (not-lower→≼ t (e .tag)) (not-both (isSecured e) (lower t (e .tag)) h)))
 
-  raised-least : {u : Tag} → t ≼ u → Below u e → raised t e ≼ u
-  raised-least {u} p q = raised-ind (λ (r : Tag). r ≼ u) (λ s _. q s) (λ _. p)
+  higher-least : {u : Tag} → t ≼ u → Below u e → higherOf t e ≼ u
+  higher-least {u} p q = higher-ind (λ (r : Tag). r ≼ u) (λ s _. q s) (λ _. p)
 
-  raised-over : t ≼ raised t e
-  raised-over = raised-ind (λ (r : Tag). t ≼ r) (λ _ l. ≺→≼ l) (λ _. ≼-refl t)
+  higher-over : t ≼ higherOf t e
+  higher-over = higher-ind (λ (r : Tag). t ≼ r) (λ _ l. ≺→≼ l) (λ _. ≼-refl t)
 
-  raised-above : Below (raised t e) e
-  raised-above s = raised-ind (λ (r : Tag). e .tag ≼ r) (λ _ _. ≼-refl (e .tag)) (λ f. f s)
+  higher-above : Below (higherOf t e) e
+  higher-above s = higher-ind (λ (r : Tag). e .tag ≼ r) (λ _ _. ≼-refl (e .tag)) (λ f. f s)
 
-  raised-up : T (isSecured e) → t ≺ e .tag → raised t e ≡ e .tag
-  raised-up s l = raised-ind (λ (r : Tag). r ≡ e .tag) (λ _ _. refl) (λ f. absurd (≺-irrefl (≺-≼ l (f s))))
+  higher-up : T (isSecured e) → t ≺ e .tag → higherOf t e ≡ e .tag
+  higher-up s l = higher-ind (λ (r : Tag). r ≡ e .tag) (λ _ _. refl) (λ f. absurd (≺-irrefl (≺-≼ l (f s))))
 
-  raised-same : Below t e → raised t e ≡ t
-  raised-same f = raised-ind (λ (r : Tag). r ≡ t) (λ s l. absurd (≺-irrefl (≺-≼ l (f s)))) (λ _. refl)
+  higher-same : Below t e → higherOf t e ≡ t
+  higher-same f = higher-ind (λ (r : Tag). r ≡ t) (λ s l. absurd (≺-irrefl (≺-≼ l (f s)))) (λ _. refl)
 
 -- ---- the least tag that no secured entry is above
 
 pub highest-least : {es : List Entry} {u : Tag} → All (Below u) es → highest es ≼ u
 unfolding highest
 highest-least {u = u} none = first-least u
-highest-least (cons {x = e} {xs = es} b bs) = raised-least (highest es) e (highest-least bs) b
+highest-least (cons {x = e} {xs = es} b bs) = higher-least (highest es) e (highest-least bs) b
 
 pub highest-above : (es : List Entry) → All (Below (highest es)) es
 unfolding highest
 highest-above [] = none
 highest-above (e ∷ es) =
-    cons (raised-above (highest es) e) (all-map (λ a b s. ≼-trans (b s) (raised-over (highest es) e)) (highest-above es))
+    cons (higher-above (highest es) e) (all-map (λ a b s. ≼-trans (b s) (higher-over (highest es) e)) (highest-above es))
 
 -- where none is secured
 highest-first : (es : List Entry) → T (not (some? isSecured es)) → highest es ≼ first
@@ -75,7 +75,7 @@ pub highest-of : (K : Tag → Type 0) {es : List Entry} → All (λ e. T (isSecu
 unfolding highest
 highest-of K none h = absurd h
 highest-of K (cons {x = e} {xs = es} k ks) h =
-    raised-ind (highest es) e K (λ s _. k s)
+    higher-ind (highest es) e K (λ s _. k s)
     (λ f. ⊎-elim (λ (y : some? isSecured es ≡ true). highest-of K ks (true-T (some? isSecured es) y))
     (λ (n : some? isSecured es ≡ false). only f (false-T (some? isSecured es) n)) (either (some? isSecured es)))
   where
@@ -95,14 +95,14 @@ module _ (g : Tag) where
   unfolding highest
   freed-high [] h = refl
   freed-high (e ∷ es) h =
-      raised-ind (highest es) e (λ (r : Tag). g ≼ r → raised (highest (map (freeBelow g) es)) (freeBelow g e) ≡ r)
+      higher-ind (highest es) e (λ (r : Tag). g ≼ r → higherOf (highest (map (freeBelow g) es)) (freeBelow g e) ≡ r)
       (λ s l k.
-      if-ind (λ (x : Entry). raised (highest (map (freeBelow g) es)) x ≡ e .tag) (lower (e .tag) g)
+      if-ind (λ (x : Entry). higherOf (highest (map (freeBelow g) es)) x ≡ e .tag) (lower (e .tag) g)
       (λ q. absurd (≺-irrefl (≺-≼ (lower→≺ (e .tag) g q) k)))
-      (λ _. raised-up (highest (map (freeBelow g) es)) e s (≼-≺ (freed-low es) l)))
+      (λ _. higher-up (highest (map (freeBelow g) es)) e s (≼-≺ (freed-low es) l)))
       (λ f k.
       rw (freed-high es k)
-      (raised-same (highest es) (freeBelow g e) (if-ind (Below (highest es)) (lower (e .tag) g) (λ _. blank-below (highest es)) (λ _. f))))
+      (higher-same (highest es) (freeBelow g e) (if-ind (Below (highest es)) (lower (e .tag) g) (λ _. blank-below (highest es)) (λ _. f))))
       h
 
 -- tidy keeps the highest secured tag

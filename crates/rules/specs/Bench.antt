@@ -17,7 +17,7 @@ use Rattle.rules.specs.declared.Outcome.{Outcome}
 use Rattle.rules.specs.declared.Outcome.the-variants.{Next, Spent}
 use Rattle.rules.specs.Quorums.{enoughToRead}
 use Rattle.rules.specs.Directory.{directoryAfter, reply, directoryPost}
-use Rattle.rules.specs.Replica.{entry, entryWith, raised, highest, read, tidied}
+use Rattle.rules.specs.Replica.{entry, entryWith, higherOf, highest, read, tidied}
 use Rattle.rules.specs.Client.{awaited, enoughFor, isStale, heard, chosen, turned, outcome}
 
 -- ---- the words of the table
@@ -91,5 +91,5 @@ table =
     ∷ []
 
 pub bench : Hold table
-unfolding against directoryAfter directoryPost entryWith raised highest read tidied awaited enoughToRead enoughFor isStale heard chosen turned outcome ones
+unfolding against directoryAfter directoryPost entryWith higherOf highest read tidied awaited enoughToRead enoughFor isStale heard chosen turned outcome ones
 bench = (refl, (refl, (refl, (refl, (refl, (refl, (refl, (refl, (refl, (refl, (refl, (refl, (refl, tt)))))))))))))

@@ -23,13 +23,13 @@ entryWith t [] = noEntry
 entryWith t (e ∷ es) = let rest = entryWith t es in if hasTag t e then e else rest
 
 -- the higher of t and an entry's tag, where the entry is secured
-unfoldable pub raised : Tag → Entry → Tag
-raised t e = if isSecured e && lower t (e .tag) then e .tag else t
+unfoldable pub higherOf : Tag → Entry → Tag
+higherOf t e = if isSecured e && lower t (e .tag) then e .tag else t
 
 -- the highest secured tag
 unfoldable pub highest : List Entry → Tag
 highest [] = first
-highest (e ∷ es) = raised (highest es) e
+highest (e ∷ es) = higherOf (highest es) e
 
 abbrev pub secured : Entry → Entry
 secured e = record { state = 2; tag = e .tag; spare = e .spare; page = e .page }

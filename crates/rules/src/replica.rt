@@ -6,7 +6,7 @@ ghost use Rattle.tables.specs.Rows.{putFirst};
 ghost use Rattle.tables.specs.Tables.{noEntry, isFree};
 ghost use Rattle.tables.specs.Machines.{entriesOf};
 ghost use Rattle.tables.specs.Inner.{withEntries};
-ghost use Rattle.rules.specs.Replica.{highest, raised, secure, write, hearGossip, read, replicaAfter, replicaPost, isFull, gossipPost};
+ghost use Rattle.rules.specs.Replica.{highest, higherOf, secure, write, hearGossip, read, replicaAfter, replicaPost, isFull, gossipPost};
 ghost use Rattle.rules.specs.Inner.{Sender, ReplicaAble};
 use mail::Post;
 use mail::posts;
@@ -18,8 +18,8 @@ use tables::rows;
 use tables::search;
 
 // The higher of t and an entry's tag, where the entry is secured.
-fn raise(t: Tag, e: Entry) -> Tag
-    ensures { λ r. ⌜ r ≡ raised t e ⌝ }
+fn higher_of(t: Tag, e: Entry) -> Tag
+    ensures { λ r. ⌜ r ≡ higherOf t e ⌝ }
 {
     let new = e.tag;
     if e.state == 2 {
@@ -42,7 +42,7 @@ pub fn highest_of(l: &[u32]) -> Tag
     while 0 < j {
         j -= 1;
         let at = j * 20;
-        t = raise(t, rows::entry_at(&l[at..]));
+        t = higher_of(t, rows::entry_at(&l[at..]));
     }
     t
 }
