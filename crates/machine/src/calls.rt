@@ -15,6 +15,7 @@ use rules::Answer;
 use rules::request;
 use tables::Conf;
 use tables::Layout;
+use tables::blank;
 use tables::places;
 use tables::rows;
 
@@ -37,7 +38,7 @@ pub(crate) fn start_read(lay: Layout, m: &mut [u32], client: u32) -> Answer
     if state != 0 {
         return request::plain(state);
     }
-    starting::start(lay, m, client, 1, mail::posts::no_page())
+    starting::start(lay, m, client, 1, blank::no_page())
 }
 
 pub(crate) fn start_write(lay: Layout, m: &mut [u32], client: u32, page: &[u32]) -> Answer

@@ -16,7 +16,7 @@ ghost use Rattle.machine.specs.Inner.{Took, blank, withDirectories, with
 use inspect::fields;
 use rules::Answer;
 use rules::request;
-use sets::Tag;
+use sets::FIRST;
 use tables::Conf;
 use tables::Directory;
 use tables::Entry;
@@ -77,19 +77,15 @@ fn lay_out(lay: Layout, m: &mut [u32], k: Conf, page: [u32; 16])
     ensures { λ _. ⌜ now (m .exit) ≡ words (newMachine (lay .directories) k page) (drop (extent lay) (now (m .entry))) ⌝ }
 {
     clear(lay, m, k);
-    let first = Tag {
-        number: 0,
-        client: 0,
-    };
     let x = Directory {
         down: 0,
-        tag: first,
+        tag: FIRST,
         set: sets::all_of(k.replicas),
     };
     directories(lay, m, k.directories, x);
     let e = Entry {
         state: 2,
-        tag: first,
+        tag: FIRST,
         spare: 0,
         page,
     };

@@ -1,26 +1,11 @@
 // Messages that a step sends.
 ghost use mathlib.Core.Path.{_≡_};
-ghost use Rattle.sets.specs.Tags.{first};
 ghost use Rattle.tables.specs.Tables.{noPage};
 ghost use Rattle.mail.specs.Posts.{message, post, noPost};
 use crate::Post;
 use sets::Tag;
 use tables::Message;
-
-pub fn no_page() -> [u32; 16]
-    ensures { λ r. ⌜ r ≡ noPage ⌝ }
-{
-    [0u32; 16]
-}
-
-pub fn no_tag() -> Tag
-    ensures { λ r. ⌜ r ≡ first ⌝ }
-{
-    Tag {
-        number: 0,
-        client: 0,
-    }
-}
+use tables::blank;
 
 // A message with a page.
 pub fn paged(kind: u32, sender: u32, t: Tag, number: u32, page: [u32; 16], to: u32) -> Post
@@ -43,7 +28,7 @@ pub fn paged(kind: u32, sender: u32, t: Tag, number: u32, page: [u32; 16], to: u
 pub fn bare(kind: u32, sender: u32, t: Tag, set: u32, number: u32, to: u32) -> Post
     ensures { λ r. ⌜ r ≡ post (message kind sender t set number noPage) to ⌝ }
 {
-    let page = no_page();
+    let page = blank::no_page();
     let x = Message {
         kind,
         sender,
@@ -60,6 +45,8 @@ pub fn bare(kind: u32, sender: u32, t: Tag, set: u32, number: u32, to: u32) -> P
 pub fn nothing() -> Post
     ensures { λ r. ⌜ r ≡ noPost ⌝ }
 {
-    let t = no_tag();
-    bare(0, 0, t, 0, 0, 0)
+    Post {
+        message: blank::no_message(),
+        to: 0,
+    }
 }

@@ -12,8 +12,8 @@ ghost use Rattle.mail.specs.Posts.{messagesOf};
 ghost use Rattle.mail.specs.Slots.{placed, emptySlots};
 ghost use Rattle.mail.specs.Inner.{withMail};
 use crate::Post;
-use crate::posts;
 use tables::Message;
+use tables::blank;
 use tables::rows;
 
 // The lowest empty slot, or 128 where there is none.
@@ -67,9 +67,7 @@ pub fn empty_slot(l: &mut [u32], s: usize)
     requires { ⌜ (3072 ≤ length (now l)) × (s < 128) ⌝ }
     ensures { λ _. ⌜ now (l .exit) ≡ withMail (now (l .entry)) (withRow (slotsOf (now (l .entry))) (suc s) noMessage) ⌝ }
 {
-    let none = posts::nothing();
-    let x = none.message;
-    set_slot(l, s, x);
+    set_slot(l, s, blank::no_message());
 }
 
 // Whether the empty slots, and `more` besides, are enough for a message to each in the set.

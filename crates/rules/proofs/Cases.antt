@@ -9,7 +9,7 @@ use Rattle.sets.specs.Plain.{if_then_else_}
 use Rattle.sets.specs.declared.Tag.{Tag}
 use Rattle.sets.specs.declared.Order.{Order}
 use Rattle.sets.specs.declared.Order.the-variants.{Lower, Same, Greater}
-use Rattle.sets.specs.Tags.{first, against}
+use Rattle.sets.specs.Tags.{against}
 use Rattle.sets.specs.Sets.{has, size, join, only, with}
 use Rattle.tables.specs.declared.Conf.{Conf}
 use Rattle.tables.specs.declared.Client.{Client}
@@ -19,12 +19,12 @@ use Rattle.tables.specs.Tables.{noPage}
 use Rattle.rules.specs.declared.Answer.{Answer}
 use Rattle.mail.specs.declared.Post.{Post}
 use Rattle.rules.specs.declared.Outcome.{Outcome}
-use Rattle.rules.specs.declared.Outcome.the-variants.{Waiting, Next, Spent, Stale}
+use Rattle.rules.specs.declared.Outcome.the-variants.{Waiting, Next, Stale}
 use Rattle.mail.specs.Posts.{message, post, noPost}
 use Rattle.rules.specs.Quorums.{enoughToRead, enoughToWrite}
 use Rattle.rules.specs.Directory.{holding, told, noticed, directoryAfter, reply, directoryPost}
 use Rattle.rules.specs.Client.{awaited, enoughFor, isStale, gathered, raised, hearing, heard, turned, outcome, moved, clientAfter, request, clientPost}
-use Rattle.rules.specs.Answers.{answer, answerOf}
+use Rattle.rules.specs.Answers.{answerOf}
 use Rattle.rules.specs.Inner.{AfterAble}
 use Rattle.rules.proofs.Heard.{heard-keeps}
 
@@ -196,9 +196,6 @@ module _ (w : Client) (x : Message) (o : Outcome) where
 module _ (own : ℕ) (o : Outcome) where
   pub answer-by : (p : Outcome) (r : Answer) → o ≡ p → r ≡ answerOf own p → r ≡ answerOf own o
   answer-by p r e h = rw e h
-
-  pub answer-spent : (t : Tag) → o ≡ Spent → t ≡ first → answer 3 own t ≡ answerOf own o
-  answer-spent t e h = rw (e, h)
 
 -- ---- what is sent
 

@@ -62,9 +62,9 @@ module _ (t : Tag) (l : List ℕ) (j : ℕ) (e : j ≡ before (hasTag t) (entrie
 
 -- ---- the highest secured tag, from the last entry to the first
 
-pub highest-none : (l : List ℕ) (t : Tag) → t ≡ first → t ≡ highest (drop 12 (entriesOf l))
+pub highest-none : (l : List ℕ) → first ≡ highest (drop 12 (entriesOf l))
 unfolding highest
-highest-none l t e = e ∙ rw (no-more (entriesOf l) 12 (entries-many l) 12 (omega arith))
+highest-none l = rw (no-more (entriesOf l) 12 (entries-many l) 12 (omega arith))
 
 pub highest-more : (l : List ℕ) (j : ℕ) (t r : Tag) (e : Entry) → 0 < j → j ≤ 12 → t ≡ highest (drop j (entriesOf l))
     → e ≡ entryOf (take (length l - (j - 1) * 20) (drop ((j - 1) * 20) l)) → r ≡ higherOf t e → r ≡ highest (drop (j - 1) (entriesOf l))

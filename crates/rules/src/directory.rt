@@ -6,6 +6,7 @@ ghost use Rattle.rules.specs.Directory.{told, noticed, directoryAfter, r
 ghost use Rattle.rules.specs.Inner.{Sender, DirectoryAble};
 use mail::Post;
 use mail::posts;
+use sets::FIRST;
 use sets::Order;
 use sets::Tag;
 use tables::Directory;
@@ -81,15 +82,11 @@ pub fn post(d: Directory, x: Message) -> Post
 {
     let kind = x.kind;
     let t = d.tag;
-    let none = Tag {
-        number: 0,
-        client: 0,
-    };
     match kind {
         1 => answer(x, 5, t, d.set),
-        2 => answer(x, 6, none, 0),
+        2 => answer(x, 6, FIRST, 0),
         3 => answer(x, 7, t, 0),
-        4 => answer(x, 8, none, 0),
+        4 => answer(x, 8, FIRST, 0),
         _ => posts::nothing(),
     }
 }

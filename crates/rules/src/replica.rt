@@ -10,10 +10,12 @@ ghost use Rattle.rules.specs.Replica.{highest, higherOf, secure, write, 
 ghost use Rattle.rules.specs.Inner.{Sender, ReplicaAble};
 use mail::Post;
 use mail::posts;
+use sets::FIRST;
 use sets::Order;
 use sets::Tag;
 use tables::Entry;
 use tables::Message;
+use tables::blank;
 use tables::rows;
 use tables::search;
 
@@ -37,7 +39,7 @@ pub fn highest_of(l: &[u32]) -> Tag
     requires { ⌜ 240 ≤ length (now l) ⌝ }
     ensures { λ r. ⌜ r ≡ highest (entriesOf (now (l .entry))) ⌝ }
 {
-    let mut t = posts::no_tag();
+    let mut t = FIRST;
     let mut j: usize = 12;
     while 0 < j {
         j -= 1;
@@ -45,17 +47,6 @@ pub fn highest_of(l: &[u32]) -> Tag
         t = higher_of(t, rows::entry_at(&l[at..]));
     }
     t
-}
-
-pub fn no_entry() -> Entry
-    ensures { λ r. ⌜ r ≡ noEntry ⌝ }
-{
-    Entry {
-        state: 0,
-        tag: posts::no_tag(),
-        spare: 0,
-        page: posts::no_page(),
-    }
 }
 
 // Entry j, or a free one where there is none.
@@ -67,7 +58,7 @@ fn entry_in(l: &[u32], j: usize) -> Entry
         let at = j * 20;
         return rows::entry_at(&l[at..]);
     }
-    no_entry()
+    blank::no_entry()
 }
 
 // Kind 9: the entry of the tag, or else the highest secured one.
@@ -185,7 +176,6 @@ pub fn post(nd: u32, l: &[u32], x: Message) -> Post
 {
     let kind = x.kind;
     let t = x.tag;
-    let none = posts::no_tag();
     match kind {
         9 => {
             let e = read_in(l, t);
@@ -200,7 +190,7 @@ pub fn post(nd: u32, l: &[u32], x: Message) -> Post
                 sets::only_of(x.sender),
             )
         }
-        10 => posts::bare(13, x.receiver, none, 0, x.number, sets::only_of(x.sender)),
+        10 => posts::bare(13, x.receiver, FIRST, 0, x.number, sets::only_of(x.sender)),
         15 => posts::bare(14, x.receiver, t, 0, 0, sets::all_of(nd)),
         _ => posts::nothing(),
     }

@@ -9,10 +9,12 @@ use crate::Outcome;
 use crate::client;
 use mail::Post;
 use mail::posts;
+use sets::FIRST;
 use sets::Tag;
 use tables::Client;
 use tables::Conf;
 use tables::Message;
+use tables::blank;
 
 // The row of a client whose operation has ended.
 fn rest(w: Client) -> Client
@@ -24,9 +26,9 @@ fn rest(w: Client) -> Client
         number: w.number,
         answered: 0,
         replicas: 0,
-        tag: posts::no_tag(),
+        tag: FIRST,
         spare: w.spare,
-        page: posts::no_page(),
+        page: blank::no_page(),
     }
 }
 
@@ -59,7 +61,7 @@ pub fn start(w: Client, phase: u32, page: [u32; 16]) -> Client
         number: w.number + 1,
         answered: 0,
         replicas: 0,
-        tag: posts::no_tag(),
+        tag: FIRST,
         spare: w.spare,
         page,
     }
@@ -87,16 +89,12 @@ pub fn request_of(k: Conf, own: u32, w: Client) -> Post
     let phase = w.phase;
     let t = w.tag;
     let page = w.page;
-    let none = Tag {
-        number: 0,
-        client: 0,
-    };
     let directories = sets::all_of(k.directories);
     match phase {
-        1 => posts::bare(1, own, none, 0, w.number, directories),
+        1 => posts::bare(1, own, FIRST, 0, w.number, directories),
         2 => posts::bare(2, own, t, w.replicas, w.number, directories),
         3 => posts::bare(9, own, t, 0, w.number, w.replicas),
-        4 => posts::bare(3, own, none, 0, w.number, directories),
+        4 => posts::bare(3, own, FIRST, 0, w.number, directories),
         5 => posts::paged(10, own, t, w.number, page, sets::all_of(k.replicas)),
         6 => posts::bare(4, own, t, w.replicas, w.number, directories),
         _ => posts::nothing(),
@@ -130,7 +128,6 @@ pub fn post(k: Conf, own: u32, w: Client, y: Client, o: Outcome) -> Post
 pub fn answer_of(own: u32, o: Outcome) -> Answer
     ensures { λ r. ⌜ r ≡ answerOf own o ⌝ }
 {
-    let none = posts::no_tag();
     match o {
         Outcome::Waiting => plain(0),
         Outcome::Next(_) => plain(0),
@@ -147,7 +144,7 @@ pub fn answer_of(own: u32, o: Outcome) -> Answer
         Outcome::Spent => Answer {
             code: 3,
             client: own,
-            tag: none,
+            tag: FIRST,
         },
         Outcome::Stale => plain(5),
     }
@@ -160,6 +157,6 @@ pub fn plain(code: u32) -> Answer
     Answer {
         code,
         client: 0,
-        tag: posts::no_tag(),
+        tag: FIRST,
     }
 }

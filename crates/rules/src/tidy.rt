@@ -10,6 +10,7 @@ ghost use Rattle.rules.specs.Inner.{mark, freeMarked};
 use crate::replica;
 use sets::Order;
 use sets::Tag;
+use tables::blank;
 use tables::rows;
 
 // 1 where the entry that a part begins with goes, else 0.
@@ -48,7 +49,7 @@ fn free_marked(l: &mut [u32], marks: [u32; 12])
     let mut j: usize = 0;
     while j < 12 {
         if marks[j] == 1 {
-            replica::put_in(l, j, replica::no_entry());
+            replica::put_in(l, j, blank::no_entry());
         }
         j += 1;
     }

@@ -10,6 +10,12 @@ pub struct Tag {
     pub client: u32,
 }
 
+// The first tag, and the tag of what has none.
+pub const FIRST: Tag = Tag {
+    number: 0,
+    client: 0,
+};
+
 // How a tag stands against another.
 pub enum Order {
     Lower,

@@ -1,6 +1,7 @@
 // The tables of a machine, document 01, "The tables": its rows as structs, and the places where they stand in the lent buffer.
 use sets::Tag;
 
+pub mod blank; // blank.rt: rows and pages not in use
 pub mod rows; // rows.rt: a row read from, or written to, a part that begins at its first word
 pub mod places; // places.rt: where each table stands in the whole buffer, and the rows of the parties
 pub mod search; // search.rt: free entries and tags

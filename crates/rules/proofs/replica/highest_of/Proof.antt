@@ -17,7 +17,7 @@ abbrev μ-loop : tie.MeasureT-loop
 pub highest-of-spec : {M : Type 1} → statement M
 highest-of-spec =
     tie.close
-    (tie.spec Inv-loop μ-loop (λ c κs. search needs) (λ c. (search needs, search highest-none))
+    (tie.spec Inv-loop μ-loop (λ c. (search needs, search highest-none))
     (λ c. search needs) (λ c. search needs) (λ c. search needs) (λ c. search needs) (λ c. search needs)
     (λ c. search needs) (λ c κs. search needs) (λ c κs. search needs) (λ c. search needs)
     (λ c. (search needs, search highest-more)) (λ c. search highest-end))

@@ -1,9 +1,8 @@
-use mathlib.Core.Path.{_≡_, _∙_}
+use mathlib.Core.Path.{_≡_}
 use mathlib.Core.List.{List}
 use Prim.Native.Nat.{ℕ}
 use borrow.Author.Needs.{needs}
 use borrow.Author.Tests.{ne-eqb}
-use Rattle.sets.specs.declared.Tag.{Tag}
 use Rattle.sets.specs.Tags.{first}
 use Rattle.sets.specs.Sets.{only, all}
 use Rattle.tables.specs.declared.Entry.{Entry}
@@ -22,10 +21,9 @@ module _ (nd : ℕ) (es : List Entry) (x : Message) (r : Post) (s : ℕ) where
   unfolding replicaPost
   answers e k f g q = simp (at k, ← f, ← g) q
 
-  writes : (t : Tag) → x .kind ≡ 10 → t ≡ first → s ≡ only (x .sender) → r ≡ post (message 13 (x .receiver) t 0 (x .number) noPage) s
-      → r ≡ replicaPost nd es x
+  writes : x .kind ≡ 10 → s ≡ only (x .sender) → r ≡ post (message 13 (x .receiver) first 0 (x .number) noPage) s → r ≡ replicaPost nd es x
   unfolding replicaPost
-  writes t k f g q = simp (at k, ← g) (q ∙ rw f)
+  writes k g q = simp (at k, ← g) q
 
   hears : x .kind ≡ 15 → s ≡ all nd → r ≡ post (message 14 (x .receiver) (x .tag) 0 0 noPage) s → r ≡ replicaPost nd es x
   unfolding replicaPost
@@ -38,6 +36,6 @@ other nd es x r a b c q = rw (ne-eqb _ _ a, ne-eqb _ _ b, ne-eqb _ _ c) q
 pub post-spec : {M : Type 1} → statement M
 post-spec =
     tie.close
-    (tie.spec (λ c κs. search needs) (λ c κs. search needs) (λ c κs. search needs) (λ c κs. search needs)
+    (tie.spec (λ c κs. search needs) (λ c κs. search needs) (λ c κs. search needs)
     (λ c κs. search needs) (λ c κs. search needs) (λ c κs. search needs) (λ c κs. search needs)
     (λ c κs. search needs) (λ c. search answers) (λ c. search writes) (λ c. search hears) (λ c. search other))
