@@ -12,7 +12,7 @@ use crate::receiving;
 use crate::setting;
 use crate::starting;
 use rules::Answer;
-use rules::request;
+use rules::answers;
 use tables::Conf;
 use tables::Layout;
 use tables::blank;
@@ -24,7 +24,7 @@ pub(crate) fn set_up(lay: Layout, m: &mut [u32], k: Conf, page: &[u32]) -> Answe
     ensures { λ r. ⌜ Gives (call lay (setUp k (now (page .entry))) (now (m .entry))) r [] (now (m .exit)) ⌝ }
 {
     if (m.len() < places::extent(lay)) | (page.len() != 16) {
-        return request::plain(16);
+        return answers::coded(16);
     }
     let p = rows::page_at(page);
     setting::set_up_long(lay, m, k, p)
@@ -36,7 +36,7 @@ pub(crate) fn start_read(lay: Layout, m: &mut [u32], client: u32) -> Answer
 {
     let state = inner::state(lay, m, 16);
     if state != 0 {
-        return request::plain(state);
+        return answers::coded(state);
     }
     starting::start(lay, m, client, 1, blank::no_page())
 }
@@ -47,7 +47,7 @@ pub(crate) fn start_write(lay: Layout, m: &mut [u32], client: u32, page: &[u32])
 {
     let state = inner::state(lay, m, page.len());
     if state != 0 {
-        return request::plain(state);
+        return answers::coded(state);
     }
     let p = rows::page_at(page);
     starting::start(lay, m, client, 4, p)
@@ -59,7 +59,7 @@ pub(crate) fn deliver(lay: Layout, m: &mut [u32], slot: u32, page: &mut [u32]) -
 {
     let state = inner::state(lay, m, page.len());
     if state != 0 {
-        return request::plain(state);
+        return answers::coded(state);
     }
     receiving::deliver_good(lay, m, slot, page)
 }
@@ -70,7 +70,7 @@ pub(crate) fn gossip(lay: Layout, m: &mut [u32], from: u32, to: u32) -> Answer
 {
     let state = inner::state(lay, m, 16);
     if state != 0 {
-        return request::plain(state);
+        return answers::coded(state);
     }
     others::gossip_good(lay, m, from, to)
 }
@@ -81,7 +81,7 @@ pub(crate) fn tidy(lay: Layout, m: &mut [u32], replica: u32) -> Answer
 {
     let state = inner::state(lay, m, 16);
     if state != 0 {
-        return request::plain(state);
+        return answers::coded(state);
     }
     others::tidy_good(lay, m, replica)
 }
@@ -92,7 +92,7 @@ pub(crate) fn crash(lay: Layout, m: &mut [u32], kind: u32, id: u32) -> Answer
 {
     let state = inner::state(lay, m, 16);
     if state != 0 {
-        return request::plain(state);
+        return answers::coded(state);
     }
     others::crash_good(lay, m, kind, id)
 }

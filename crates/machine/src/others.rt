@@ -16,7 +16,7 @@ use crate::send;
 use inspect::fields;
 use mail::Post;
 use rules::Answer;
-use rules::request;
+use rules::answers;
 use tables::Layout;
 use tables::places;
 use tables::rows;
@@ -27,16 +27,16 @@ fn crash_client(lay: Layout, m: &mut [u32], id: u32) -> Answer
 {
     let k = rows::conf_at(m);
     if !fields::is_between(1, k.clients, id) {
-        return request::plain(18);
+        return answers::coded(18);
     }
     let i = (id - 1) as usize;
     let mut w = places::client(lay, m, i);
     if w.down == 1 {
-        return request::plain(19);
+        return answers::coded(19);
     }
     w.down = 1;
     places::set_client(lay, m, i, w);
-    request::plain(0)
+    answers::coded(0)
 }
 
 fn crash_directory(lay: Layout, m: &mut [u32], id: u32) -> Answer
@@ -45,16 +45,16 @@ fn crash_directory(lay: Layout, m: &mut [u32], id: u32) -> Answer
 {
     let k = rows::conf_at(m);
     if !fields::is_between(1, k.directories, id) {
-        return request::plain(18);
+        return answers::coded(18);
     }
     let i = (id - 1) as usize;
     let mut w = places::directory(lay, m, i);
     if w.down == 1 {
-        return request::plain(19);
+        return answers::coded(19);
     }
     w.down = 1;
     places::set_directory(lay, m, i, w);
-    request::plain(0)
+    answers::coded(0)
 }
 
 fn crash_replica(lay: Layout, m: &mut [u32], id: u32) -> Answer
@@ -63,14 +63,14 @@ fn crash_replica(lay: Layout, m: &mut [u32], id: u32) -> Answer
 {
     let k = rows::conf_at(m);
     if !fields::is_between(1, k.replicas, id) {
-        return request::plain(18);
+        return answers::coded(18);
     }
     let i = (id - 1) as usize;
     if places::down(lay, m, i) == 1 {
-        return request::plain(19);
+        return answers::coded(19);
     }
     places::set_down(lay, m, i, 1);
-    request::plain(0)
+    answers::coded(0)
 }
 
 // Crash of a party: 1 client, 2 directory, 3 replica.
@@ -82,7 +82,7 @@ pub(crate) fn crash_good(lay: Layout, m: &mut [u32], kind: u32, id: u32) -> Answ
         1 => crash_client(lay, m, id),
         2 => crash_directory(lay, m, id),
         3 => crash_replica(lay, m, id),
-        _ => request::plain(18),
+        _ => answers::coded(18),
     }
 }
 
@@ -101,14 +101,14 @@ pub(crate) fn tidy_good(lay: Layout, m: &mut [u32], r: u32) -> Answer
 {
     let k = rows::conf_at(m);
     if !fields::is_between(1, k.replicas, r) {
-        return request::plain(18);
+        return answers::coded(18);
     }
     let i = (r - 1) as usize;
     if places::down(lay, m, i) == 1 {
-        return request::plain(19);
+        return answers::coded(19);
     }
     tidy_replica(lay, m, i);
-    request::plain(0)
+    answers::coded(0)
 }
 
 // What replica i, counted from 0, sends by gossip.
@@ -133,16 +133,16 @@ pub(crate) fn gossip_good(lay: Layout, m: &mut [u32], from: u32, to: u32) -> Ans
 {
     let k = rows::conf_at(m);
     if !two_of(k.replicas, from, to) {
-        return request::plain(18);
+        return answers::coded(18);
     }
     let i = (from - 1) as usize;
     if places::down(lay, m, i) == 1 {
-        return request::plain(19);
+        return answers::coded(19);
     }
     let p = gossip_post(lay, m, i, from, to);
     if !send::room(lay, m, 0, p.to) {
-        return request::plain(24);
+        return answers::coded(24);
     }
     send::send(lay, m, p);
-    request::plain(0)
+    answers::coded(0)
 }

@@ -22,6 +22,7 @@ use inspect::fields;
 use mail::Post;
 use rules::Answer;
 use rules::Outcome;
+use rules::answers;
 use rules::client;
 use rules::directory;
 use rules::replica;
@@ -53,11 +54,11 @@ fn commit_directory(lay: Layout, m: &mut [u32], s: usize, i: usize, d: Directory
     ensures { λ r. ⌜ Committed lay (now (m .entry)) s (directory (suc i) d) y (coded 0) r (now (m .exit)) ⌝ }
 {
     if !crate::send::room(lay, m, 1, y.to) {
-        return request::plain(24);
+        return answers::coded(24);
     }
     places::set_directory(lay, m, i, d);
     crate::send::replace(lay, m, s, y);
-    request::plain(0)
+    answers::coded(0)
 }
 
 fn to_directory(lay: Layout, m: &mut [u32], s: usize, x: Message) -> Answer
@@ -68,7 +69,7 @@ fn to_directory(lay: Layout, m: &mut [u32], s: usize, x: Message) -> Answer
     let d = places::directory(lay, m, i);
     if d.down == 1 {
         crate::send::empty_slot(lay, m, s);
-        return request::plain(4);
+        return answers::coded(4);
     }
     let k = rows::conf_at(m);
     let new = directory::after(k.f, d, x);
@@ -109,11 +110,11 @@ fn commit_replica(lay: Layout, m: &mut [u32], s: usize, i: usize, x: Message, y:
     ensures { λ r. ⌜ Committed lay (now (m .entry)) s (replica (suc i) (stocked (machineOf lay (now (m .entry))) (suc i) (replicaAfter (replicaAt (machineOf lay (now (m .entry))) (suc i) .entries) x))) y (coded 0) r (now (m .exit)) ⌝ }
 {
     if !crate::send::room(lay, m, 1, y.to) {
-        return request::plain(24);
+        return answers::coded(24);
     }
     store(lay, m, i, x);
     crate::send::replace(lay, m, s, y);
-    request::plain(0)
+    answers::coded(0)
 }
 
 fn to_replica(lay: Layout, m: &mut [u32], s: usize, x: Message) -> Answer
@@ -123,10 +124,10 @@ fn to_replica(lay: Layout, m: &mut [u32], s: usize, x: Message) -> Answer
     let i = (x.receiver - 1) as usize;
     if places::down(lay, m, i) == 1 {
         crate::send::empty_slot(lay, m, s);
-        return request::plain(4);
+        return answers::coded(4);
     }
     if is_full(lay, m, i, x) {
-        return request::plain(23);
+        return answers::coded(23);
     }
     let k = rows::conf_at(m);
     let y = post_of(lay, m, i, k.directories, x);
@@ -147,7 +148,7 @@ fn commit_client(
     ensures { λ r. ⌜ Committed lay (now (m .entry)) s (client (suc i) w) y a r (now (m .exit)) ⌝ }
 {
     if !crate::send::room(lay, m, 1, y.to) {
-        return request::plain(24);
+        return answers::coded(24);
     }
     places::set_client(lay, m, i, w);
     crate::send::replace(lay, m, s, y);
@@ -163,7 +164,7 @@ fn turn(lay: Layout, m: &mut [u32], s: usize, x: Message, k: Conf, w: Client, o:
     let i = (own - 1) as usize;
     let new = request::after(w, x, o);
     let y = request::post(k, own, w, new, o);
-    let a = request::answer_of(own, o);
+    let a = answers::answer_of(own, o);
     commit_client(lay, m, s, i, new, y, a)
 }
 
@@ -192,7 +193,7 @@ fn to_client(lay: Layout, m: &mut [u32], s: usize, x: Message, page: &mut [u32])
     let w = places::client(lay, m, i);
     if w.down == 1 {
         crate::send::empty_slot(lay, m, s);
-        return request::plain(4);
+        return answers::coded(4);
     }
     let k = rows::conf_at(m);
     let o = client::outcome_of(k, x.receiver, w, x);
@@ -207,12 +208,12 @@ pub(crate) fn deliver_good(lay: Layout, m: &mut [u32], slot: u32, page: &mut [u3
     ensures { λ r. ⌜ Took lay (step (deliver slot (now (page .entry))) (machineOf lay (now (m .entry)))) r (now (page .exit)) (now (m .entry)) (now (m .exit)) ⌝ }
 {
     if !fields::is_between(1, 128, slot) {
-        return request::plain(18);
+        return answers::coded(18);
     }
     let s = (slot - 1) as usize;
     let x = crate::send::slot(lay, m, s);
     match receiver_of(x.kind) {
-        Party::Nobody => request::plain(22),
+        Party::Nobody => answers::coded(22),
         Party::AClient => to_client(lay, m, s, x, page),
         Party::ADirectory => to_directory(lay, m, s, x),
         Party::AReplica => to_replica(lay, m, s, x),

@@ -15,7 +15,7 @@ ghost use Rattle.machine.specs.Steps.{step};
 ghost use Rattle.machine.specs.Inner.{Took, blank, withDirectories, withReplicas};
 use inspect::fields;
 use rules::Answer;
-use rules::request;
+use rules::answers;
 use sets::FIRST;
 use tables::Conf;
 use tables::Directory;
@@ -98,8 +98,8 @@ pub(crate) fn set_up_long(lay: Layout, m: &mut [u32], k: Conf, page: [u32; 16]) 
     ensures { λ r. ⌜ Took lay (step (setUp k page) (machineOf lay (now (m .entry)))) r [] (now (m .entry)) (now (m .exit)) ⌝ }
 {
     if !fields::numbers(lay.directories as u32, k) {
-        return request::plain(18);
+        return answers::coded(18);
     }
     lay_out(lay, m, k, page);
-    request::plain(0)
+    answers::coded(0)
 }

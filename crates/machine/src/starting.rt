@@ -6,6 +6,7 @@ ghost use Rattle.machine.specs.Inner.{Ready, Took, Launches, standing, l
 use crate::send;
 use inspect::fields;
 use rules::Answer;
+use rules::answers;
 use rules::request;
 use tables::Client;
 use tables::Conf;
@@ -36,11 +37,11 @@ fn launch(lay: Layout, m: &mut [u32], k: Conf, c: u32, y: Client) -> Answer
 {
     let p = request::request_of(k, c, y);
     if !send::room(lay, m, 0, p.to) {
-        return request::plain(24);
+        return answers::coded(24);
     }
     places::set_client(lay, m, (c - 1) as usize, y);
     send::send(lay, m, p);
-    request::plain(0)
+    answers::coded(0)
 }
 
 // A start in phase 1 or 4, on a machine that is not bad.
@@ -50,12 +51,12 @@ pub(crate) fn start(lay: Layout, m: &mut [u32], c: u32, phase: u32, page: [u32; 
 {
     let k = rows::conf_at(m);
     if !fields::is_between(1, k.clients, c) {
-        return request::plain(18);
+        return answers::coded(18);
     }
     let w = places::client(lay, m, (c - 1) as usize);
     let code = state_of(k, w);
     if code != 0 {
-        return request::plain(code);
+        return answers::coded(code);
     }
     let y = request::start(w, phase, page);
     launch(lay, m, k, c, y)

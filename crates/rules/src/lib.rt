@@ -6,6 +6,7 @@ pub mod replica; // replica.rt: kinds 9 to 11 and 15, gossip
 pub mod tidy; // tidy.rt
 pub mod client; // client.rt: what a reply leads to
 pub mod request; // request.rt: the client's row afterwards, and what it sends
+pub mod answers; // answers.rt: codes and values
 
 // What a reply leads to at a client.
 pub enum Outcome {

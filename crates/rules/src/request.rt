@@ -1,10 +1,8 @@
 // The client's row after a reply, and what it sends.
 ghost use mathlib.Core.Path.{_≡_};
 ghost use Prim.Native.Nat.{_<_, _≤_};
-ghost use Rattle.rules.specs.Answers.{coded, answerOf};
 ghost use Rattle.rules.specs.Client.{idle, moved, started, clientAfter, request, secures, clientPost};
 ghost use Rattle.rules.specs.Inner.{AfterAble, Few};
-use crate::Answer;
 use crate::Outcome;
 use crate::client;
 use mail::Post;
@@ -121,42 +119,5 @@ pub fn post(k: Conf, own: u32, w: Client, y: Client, o: Outcome) -> Post
         Outcome::ReadEnded(_) => posts::nothing(),
         Outcome::WriteEnded(_) => secures_of(own, w),
         Outcome::Spent => posts::nothing(),
-    }
-}
-
-// The code and values of an outcome at client `own`.
-pub fn answer_of(own: u32, o: Outcome) -> Answer
-    ensures { λ r. ⌜ r ≡ answerOf own o ⌝ }
-{
-    match o {
-        Outcome::Waiting => plain(0),
-        Outcome::Next(_) => plain(0),
-        Outcome::ReadEnded(t) => Answer {
-            code: 1,
-            client: own,
-            tag: t,
-        },
-        Outcome::WriteEnded(t) => Answer {
-            code: 2,
-            client: own,
-            tag: t,
-        },
-        Outcome::Spent => Answer {
-            code: 3,
-            client: own,
-            tag: FIRST,
-        },
-        Outcome::Stale => plain(5),
-    }
-}
-
-// A code alone.
-pub fn plain(code: u32) -> Answer
-    ensures { λ r. ⌜ r ≡ coded code ⌝ }
-{
-    Answer {
-        code,
-        client: 0,
-        tag: FIRST,
     }
 }

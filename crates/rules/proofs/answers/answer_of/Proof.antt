@@ -1,7 +1,7 @@
 use borrow.Author.Needs.{needs}
 use Rattle.rules.proofs.Cases.{answer-by}
-use Rattle.rules.proofs.request.answer_of.Statement.{statement}
-use Rattle.rules.proofs.request.answer_of.Tie as tie
+use Rattle.rules.proofs.answers.answer_of.Statement.{statement}
+use Rattle.rules.proofs.answers.answer_of.Tie as tie
 
 pub answer-of-spec : {M : Type 1} → statement M
 answer-of-spec =
