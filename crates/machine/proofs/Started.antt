@@ -32,7 +32,7 @@ use Rattle.machine.specs.Effects.{Effect, client, applied}
 use Rattle.machine.specs.Calls.{startRead, startWrite, done, startEffect}
 use Rattle.machine.specs.Refusals.{refusal, noSlot}
 use Rattle.machine.specs.Steps.{Result, refused, effectOf, step}
-use Rattle.machine.specs.Inner.{Ready, Took, Launches, standing, launchStep, startStep}
+use Rattle.machine.specs.Inner.{Ready, Took, Launches, startCode, launchStep, startStep}
 use Rattle.machine.proofs.Arrivals.{conf-of}
 use Rattle.machine.proofs.Parties.{party-low, party-row, own-party, ready-numbers, numbers-of, client-place}
 use Rattle.machine.proofs.Rooms.{no-slot}
@@ -74,8 +74,8 @@ module _ (lay : Layout) (m : List ℕ) (k : Conf) (c : ℕ) (y : Client) (g : La
 
 -- ---- the ways out of a start
 
-not-worn : (k : Conf) (w : Client) → standing k w ≡ 0 → w .number + 3 ≤ k .top
-unfolding standing
+not-worn : (k : Conf) (w : Client) → startCode k w ≡ 0 → w .number + 3 ≤ k .top
+unfolding startCode
 not-worn k w = go (eqb (w .down) 1) (not (eqb (w .phase) 0)) (ltb (k .top) (w .number + 3)) refl
   where
     go : (x y z : Bool) → ltb (k .top) (w .number + 3) ≡ z → _≡_ {A = ℕ} (if x then 19 else if y then 20 else if z then 21 else 0) 0 → w .number + 3 ≤ k .top
@@ -84,7 +84,7 @@ not-worn k w = go (eqb (w .down) 1) (not (eqb (w .phase) 0)) (ltb (k .top) (w .n
     go false false true e q = absurd (omega arith)
     go false false false e q = ltb-false (k .top) (w .number + 3) e
 
-pub start-able : (lay : Layout) (m : List ℕ) (g : Ready lay m) (k : Conf) (w : Client) (s : ℕ) → k ≡ confOf m → s ≡ standing k w → s ≡ 0 → w .number < 4294967295
+pub start-able : (lay : Layout) (m : List ℕ) (g : Ready lay m) (k : Conf) (w : Client) (s : ℕ) → k ≡ confOf m → s ≡ startCode k w → s ≡ 0 → w .number < 4294967295
 start-able lay m g k w s at j z = omega (arith, not-worn k w (sym j ∙ z), numbers-of lay m (g .fine) k at .top-fits)
 
 pub launchable : (lay : Layout) (m : List ℕ) (g : Ready lay m) (c phase : ℕ) (page : Page) (k : Conf) (w y : Client) (b : Bool) → k ≡ confOf m → b ≡ between 1 (k .clients) c
@@ -111,12 +111,12 @@ module _ (lay : Layout) (m : List ℕ) (g : Ready lay m) (c phase : ℕ) (page :
   start-out h q = rw (party-is, not-true b h) (took-nothing lay m [] 18 a (g .long) q)
 
   -- w is its row, s what keeps it from starting
-  module _ (h : not b ≡ false) (w : Client) (f : w ≡ clientAt (machineOf lay m) (suc (c - 1))) (s : ℕ) (j : s ≡ standing k w) where
+  module _ (h : not b ≡ false) (w : Client) (f : w ≡ clientAt (machineOf lay m) (suc (c - 1))) (s : ℕ) (j : s ≡ startCode k w) where
     own-row : clientAt (machineOf lay m) c ≡ w
     own-row = sym (f ∙ ap (clientAt (machineOf lay m)) (party-row c (k .clients) b e h))
 
-    stands : standing (machineOf lay m .conf) (clientAt (machineOf lay m) c) ≡ s
-    stands = ap (λ (q : Conf). standing q (clientAt (machineOf lay m) c)) conf-is ∙ ap (standing k) own-row ∙ sym j
+    stands : startCode (machineOf lay m .conf) (clientAt (machineOf lay m) c) ≡ s
+    stands = ap (λ (q : Conf). startCode q (clientAt (machineOf lay m) c)) conf-is ∙ ap (startCode k) own-row ∙ sym j
 
     post-is : startEffect (machineOf lay m) c phase page ≡ done (client c (started w phase page)) (request k c (started w phase page))
     unfolding startEffect
@@ -127,7 +127,7 @@ module _ (lay : Layout) (m : List ℕ) (g : Ready lay m) (c phase : ℕ) (page :
     -- the tests of a start, and then NO SLOT
     code-is : refusal (startRead c) (machineOf lay m) (startEffect (machineOf lay m) c phase page)
         ≡ (if eqb s 0 then if noSlot (machineOf lay m) (startEffect (machineOf lay m) c phase page) then 24 else 0 else s)
-    unfolding refusal standing
+    unfolding refusal startCode
     code-is =
         rw (party-is, not-false b h)
         (go (eqb (clientAt (machineOf lay m) c .down) 1) (not (eqb (clientAt (machineOf lay m) c .phase) 0))

@@ -131,8 +131,8 @@ pub record Gossips (lay : Layout) (m : List ℕ) (i to : ℕ) : Type 0 where
 -- ---- start
 
 -- 19, 20, 21 or 0, by the row of the starter
-unfoldable pub standing : Conf → Client → ℕ
-standing k w =
+unfoldable pub startCode : Conf → Client → ℕ
+startCode k w =
     if eqb (w .down) 1 then 19
     else if not (isIdle (w .phase)) then 20
     else if ltb (k .top) (w .number + 3) then 21

@@ -5,8 +5,8 @@ ghost use Prim.Native.Nat.{_≤_};
 ghost use Rattle.machine.specs.Calls.{setUp, startRead, startWrite, deliver, gossip, tidy, crash};
 ghost use Rattle.machine.specs.Buffers.{call, Gives, reported};
 use crate::Counts;
+use crate::codes;
 use crate::counting;
-use crate::inner;
 use crate::others;
 use crate::receiving;
 use crate::setting;
@@ -34,9 +34,9 @@ pub(crate) fn start_read(lay: Layout, m: &mut [u32], client: u32) -> Answer
     requires { ⌜ lay .directories ≤ 16 ⌝ }
     ensures { λ r. ⌜ Gives (call lay (startRead client) (now (m .entry))) r [] (now (m .exit)) ⌝ }
 {
-    let state = inner::state(lay, m, 16);
-    if state != 0 {
-        return answers::coded(state);
+    let code = codes::buffer_code(lay, m, 16);
+    if code != 0 {
+        return answers::coded(code);
     }
     starting::start(lay, m, client, 1, blank::no_page())
 }
@@ -45,9 +45,9 @@ pub(crate) fn start_write(lay: Layout, m: &mut [u32], client: u32, page: &[u32])
     requires { ⌜ lay .directories ≤ 16 ⌝ }
     ensures { λ r. ⌜ Gives (call lay (startWrite client (now (page .entry))) (now (m .entry))) r [] (now (m .exit)) ⌝ }
 {
-    let state = inner::state(lay, m, page.len());
-    if state != 0 {
-        return answers::coded(state);
+    let code = codes::buffer_code(lay, m, page.len());
+    if code != 0 {
+        return answers::coded(code);
     }
     let p = rows::page_at(page);
     starting::start(lay, m, client, 4, p)
@@ -57,9 +57,9 @@ pub(crate) fn deliver(lay: Layout, m: &mut [u32], slot: u32, page: &mut [u32]) -
     requires { ⌜ lay .directories ≤ 16 ⌝ }
     ensures { λ r. ⌜ Gives (call lay (deliver slot (now (page .entry))) (now (m .entry))) r (now (page .exit)) (now (m .exit)) ⌝ }
 {
-    let state = inner::state(lay, m, page.len());
-    if state != 0 {
-        return answers::coded(state);
+    let code = codes::buffer_code(lay, m, page.len());
+    if code != 0 {
+        return answers::coded(code);
     }
     receiving::deliver_good(lay, m, slot, page)
 }
@@ -68,9 +68,9 @@ pub(crate) fn gossip(lay: Layout, m: &mut [u32], from: u32, to: u32) -> Answer
     requires { ⌜ lay .directories ≤ 16 ⌝ }
     ensures { λ r. ⌜ Gives (call lay (gossip from to) (now (m .entry))) r [] (now (m .exit)) ⌝ }
 {
-    let state = inner::state(lay, m, 16);
-    if state != 0 {
-        return answers::coded(state);
+    let code = codes::buffer_code(lay, m, 16);
+    if code != 0 {
+        return answers::coded(code);
     }
     others::gossip_good(lay, m, from, to)
 }
@@ -79,9 +79,9 @@ pub(crate) fn tidy(lay: Layout, m: &mut [u32], replica: u32) -> Answer
     requires { ⌜ lay .directories ≤ 16 ⌝ }
     ensures { λ r. ⌜ Gives (call lay (tidy replica) (now (m .entry))) r [] (now (m .exit)) ⌝ }
 {
-    let state = inner::state(lay, m, 16);
-    if state != 0 {
-        return answers::coded(state);
+    let code = codes::buffer_code(lay, m, 16);
+    if code != 0 {
+        return answers::coded(code);
     }
     others::tidy_good(lay, m, replica)
 }
@@ -90,9 +90,9 @@ pub(crate) fn crash(lay: Layout, m: &mut [u32], kind: u32, id: u32) -> Answer
     requires { ⌜ lay .directories ≤ 16 ⌝ }
     ensures { λ r. ⌜ Gives (call lay (crash kind id) (now (m .entry))) r [] (now (m .exit)) ⌝ }
 {
-    let state = inner::state(lay, m, 16);
-    if state != 0 {
-        return answers::coded(state);
+    let code = codes::buffer_code(lay, m, 16);
+    if code != 0 {
+        return answers::coded(code);
     }
     others::crash_good(lay, m, kind, id)
 }
@@ -101,7 +101,7 @@ pub(crate) fn report(lay: Layout, m: &[u32]) -> Counts
     requires { ⌜ lay .directories ≤ 16 ⌝ }
     ensures { λ r. ⌜ r ≡ reported lay (now (m .entry)) ⌝ }
 {
-    let code = inner::state(lay, m, 16);
+    let code = codes::buffer_code(lay, m, 16);
     if code != 0 {
         return Counts {
             code,

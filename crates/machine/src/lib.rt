@@ -11,7 +11,7 @@ use tables::Conf;
 pub mod wide; // wide.rt: the same calls on a machine with 16 directory rows
 mod calls; // calls.rt: the calls in any layout
 mod send; // send.rt: the slots, lent to `mail`
-mod inner; // inner.rt: SIZE and BAD MACHINE
+mod codes; // codes.rt: SIZE and BAD MACHINE
 mod setting; // setting.rt: set-up
 mod starting; // starting.rt: start read, start write
 mod receiving; // receiving.rt: deliver

@@ -2,7 +2,7 @@
 ghost use mathlib.Core.Path.{_≡_};
 ghost use mathlib.Core.List.{[]};
 ghost use Rattle.tables.specs.Machines.{machineOf};
-ghost use Rattle.machine.specs.Inner.{Ready, Took, Launches, standing, launchStep, startStep};
+ghost use Rattle.machine.specs.Inner.{Ready, Took, Launches, startCode, launchStep, startStep};
 use crate::send;
 use inspect::fields;
 use rules::Answer;
@@ -15,8 +15,8 @@ use tables::places;
 use tables::rows;
 
 // 19, 20, 21 or 0, by a client's row.
-fn state_of(k: Conf, w: Client) -> u32
-    ensures { λ r. ⌜ r ≡ standing k w ⌝ }
+fn start_code(k: Conf, w: Client) -> u32
+    ensures { λ r. ⌜ r ≡ startCode k w ⌝ }
 {
     if w.down == 1 {
         return 19;
@@ -54,7 +54,7 @@ pub(crate) fn start(lay: Layout, m: &mut [u32], c: u32, phase: u32, page: [u32; 
         return answers::coded(18);
     }
     let w = places::client(lay, m, (c - 1) as usize);
-    let code = state_of(k, w);
+    let code = start_code(k, w);
     if code != 0 {
         return answers::coded(code);
     }

@@ -11,8 +11,8 @@ use Rattle.tables.specs.Inner.{Fits}
 use Rattle.inspect.specs.Good.{good}
 use Rattle.machine.specs.Inner.{stateOf}
 use Rattle.machine.proofs.Steps.{long-enough}
-use Rattle.machine.proofs.inner.state.Statement.{statement}
-use Rattle.machine.proofs.inner.state.Tie as tie
+use Rattle.machine.proofs.codes.buffer_code.Statement.{statement}
+use Rattle.machine.proofs.codes.buffer_code.Tie as tie
 
 module _ (lay : Layout) (m : List ℕ) (n end : ℕ) (whole : end ≡ extent lay) where
   wrong : ltb (length m) end || not (eqb n 16) ≡ true → 16 ≡ stateOf lay m n
@@ -32,7 +32,7 @@ module _ (lay : Layout) (m : List ℕ) (n end : ℕ) (whole : end ≡ extent lay
       unfolding stateOf
       fine z = rw (← whole, h, ← e, z)
 
-pub state-spec : {M : Type 1} → statement M
-state-spec =
+pub buffer-code-spec : {M : Type 1} → statement M
+buffer-code-spec =
     tie.close
     (tie.spec (λ c κs. search needs) (λ c. search wrong) (λ c κs. search long) (λ c. search bad) (λ c. search fine))
