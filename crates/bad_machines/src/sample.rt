@@ -145,7 +145,8 @@ fn put_message(
         spare: 0,
         page,
     };
-    slots::set_slot(&mut m[1920..], i, x);
+    let at = places::slots_at(BASE);
+    slots::set_slot(&mut m[at..], i, x);
 }
 
 // Kinds 1 to 4: client 7 to directory 3.

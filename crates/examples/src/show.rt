@@ -74,7 +74,7 @@ pub fn entries(l: &[u32])
     let mut more = false;
     let mut j: usize = 0;
     while j < 12 {
-        let at = j * 20;
+        let at = j * rows::ENTRY_ROW;
         more = entry(rows::entry_at(&l[at..]), more);
         j += 1;
     }

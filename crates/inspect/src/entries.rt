@@ -19,7 +19,7 @@ pub fn some_has(l: &[u32], n: usize, t: Tag) -> bool
 {
     let mut j: usize = 0;
     while j < n {
-        let at = j * 20;
+        let at = j * rows::ENTRY_ROW;
         if search::has_tag(&l[at..], t) {
             return true;
         }
@@ -40,8 +40,8 @@ pub fn marked(l: &[u32], j: usize, marks: u32) -> u32
     requires { ⌜ (240 ≤ length (now l)) × (j < 12) ⌝ }
     ensures { λ r. ⌜ r ≡ markedAt (entriesOf (now (l .entry))) j marks ⌝ }
 {
-    let at = j * 20;
-    let end = at + 20;
+    let at = j * rows::ENTRY_ROW;
+    let end = at + rows::ENTRY_ROW;
     let e = rows::entry_at(&l[at..end]);
     if e.state == 0 {
         return marks;
@@ -63,8 +63,8 @@ pub fn entry(k: Conf, l: &[u32], j: usize, marks: u32) -> bool
     requires { ⌜ Next (now l) j marks ⌝ }
     ensures { λ r. ⌜ r ≡ goodAt k (entriesOf (now (l .entry))) j ⌝ }
 {
-    let at = j * 20;
-    let end = at + 20;
+    let at = j * rows::ENTRY_ROW;
+    let end = at + rows::ENTRY_ROW;
     let e = rows::entry_at(&l[at..end]);
     if e.state == 0 {
         return fields::zero(&l[at..end]);
@@ -96,7 +96,7 @@ pub fn some_secured(l: &[u32]) -> bool
 {
     let mut j: usize = 0;
     while j < 12 {
-        if l[j * 20] == 2 {
+        if l[j * rows::ENTRY_ROW] == 2 {
             return true;
         }
         j += 1;

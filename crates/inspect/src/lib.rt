@@ -22,12 +22,12 @@ pub fn is_good(lay: Layout, m: &[u32]) -> bool
         return false;
     }
     let flags = places::flags_at(lay);
-    let gap = flags + 7;
+    let gap = places::gap_at(lay);
     let entries = places::entries_at(lay, 0);
     let slots = places::slots_at(lay);
-    fields::zero(&m[7..16])
-        & table::clients(k, &m[16..])
-        & table::directories(k, lay.directories, &m[208..])
+    fields::zero(&m[places::SPARE..places::CLIENTS])
+        & table::clients(k, &m[places::CLIENTS..])
+        & table::directories(k, lay.directories, &m[places::DIRECTORIES..])
         & fields::zero(&m[gap..entries])
         & table::replicas(k, &m[flags..], &m[entries..])
         & table::slots(k, &m[slots..])

@@ -41,8 +41,8 @@ pub fn clients(k: Conf, l: &[u32]) -> bool
     let t = limits::phases(k);
     let mut i: usize = 0;
     while i < 8 {
-        let at = i * 24;
-        let end = at + 24;
+        let at = i * rows::CLIENT_ROW;
+        let end = at + rows::CLIENT_ROW;
         if !client(&t, i < k.clients as usize, &l[at..end]) {
             return false;
         }
@@ -70,8 +70,8 @@ pub fn directories(k: Conf, n: usize, l: &[u32]) -> bool
     let mut ok = true;
     let mut i: usize = 0;
     while i < n {
-        let at = i * 4;
-        let end = at + 4;
+        let at = i * rows::DIRECTORY_ROW;
+        let end = at + rows::DIRECTORY_ROW;
         ok = ok & directory(k, i < k.directories as usize, &l[at..end]);
         i += 1;
     }
@@ -96,8 +96,8 @@ pub fn replicas(k: Conf, flags: &[u32], l: &[u32]) -> bool
 {
     let mut i: usize = 0;
     while i < 7 {
-        let at = i * 240;
-        let end = at + 240;
+        let at = i * rows::ENTRY_ROWS;
+        let end = at + rows::ENTRY_ROWS;
         if !replica(k, i < k.replicas as usize, flags[i], &l[at..end]) {
             return false;
         }
@@ -131,8 +131,8 @@ pub fn slots(k: Conf, l: &[u32]) -> bool
     let t = limits::kinds(k);
     let mut i: usize = 0;
     while i < 128 {
-        let at = i * 24;
-        let end = at + 24;
+        let at = i * rows::MESSAGE_ROW;
+        let end = at + rows::MESSAGE_ROW;
         if !slot(&t, &l[at..end]) {
             return false;
         }

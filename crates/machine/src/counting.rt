@@ -8,6 +8,7 @@ use crate::Counts;
 use crate::send;
 use tables::Layout;
 use tables::places;
+use tables::rows;
 
 // How many of n rows of w words begin with 1.
 fn down_rows(l: &[u32], w: usize, n: usize) -> u32
@@ -32,8 +33,12 @@ pub(crate) fn report_good(lay: Layout, m: &[u32]) -> Counts
 {
     let empty = send::empty_slots(lay, m);
     let flags = places::flags_at(lay);
-    let clients = down_rows(&m[16..], 24, 8);
-    let directories = down_rows(&m[208..], 4, lay.directories);
+    let clients = down_rows(&m[places::CLIENTS..], rows::CLIENT_ROW, 8);
+    let directories = down_rows(
+        &m[places::DIRECTORIES..],
+        rows::DIRECTORY_ROW,
+        lay.directories,
+    );
     let replicas = down_rows(&m[flags..], 1, 7);
     Counts {
         code: 0,

@@ -23,7 +23,7 @@ pub fn lowest_empty(l: &[u32]) -> usize
 {
     let mut s: usize = 0;
     while s < 128 {
-        if l[s * 24] == 0 {
+        if l[s * rows::MESSAGE_ROW] == 0 {
             return s;
         }
         s += 1;
@@ -39,7 +39,7 @@ pub fn empty_slots(l: &[u32]) -> usize
     let mut n: usize = 0;
     let mut s: usize = 0;
     while s < 128 {
-        if l[s * 24] == 0 {
+        if l[s * rows::MESSAGE_ROW] == 0 {
             n += 1;
         }
         s += 1;
@@ -51,7 +51,7 @@ pub fn slot(l: &[u32], s: usize) -> Message
     requires { ⌜ (3072 ≤ length (now l)) × (s < 128) ⌝ }
     ensures { λ r. ⌜ r ≡ row noMessage (slotsOf (now (l .entry))) (suc s) ⌝ }
 {
-    let at = s * 24;
+    let at = s * rows::MESSAGE_ROW;
     rows::message_at(&l[at..])
 }
 
@@ -59,7 +59,7 @@ pub fn set_slot(l: &mut [u32], s: usize, x: Message)
     requires { ⌜ (3072 ≤ length (now l)) × (s < 128) ⌝ }
     ensures { λ _. ⌜ now (l .exit) ≡ withMail (now (l .entry)) (withRow (slotsOf (now (l .entry))) (suc s) x) ⌝ }
 {
-    let at = s * 24;
+    let at = s * rows::MESSAGE_ROW;
     rows::put_message(&mut l[at..], x);
 }
 

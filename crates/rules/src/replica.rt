@@ -43,7 +43,7 @@ pub fn highest_of(l: &[u32]) -> Tag
     let mut j: usize = 12;
     while 0 < j {
         j -= 1;
-        let at = j * 20;
+        let at = j * rows::ENTRY_ROW;
         t = higher_of(t, rows::entry_at(&l[at..]));
     }
     t
@@ -55,7 +55,7 @@ fn entry_in(l: &[u32], j: usize) -> Entry
     ensures { λ r. ⌜ r ≡ getD (entriesOf (now (l .entry))) j noEntry ⌝ }
 {
     if j < 12 {
-        let at = j * 20;
+        let at = j * rows::ENTRY_ROW;
         return rows::entry_at(&l[at..]);
     }
     blank::no_entry()
@@ -81,7 +81,7 @@ pub fn put_in(l: &mut [u32], j: usize, e: Entry)
     ensures { λ _. ⌜ now (l .exit) ≡ withEntries (now (l .entry)) (set (entriesOf (now (l .entry))) j e) ⌝ }
 {
     if j < 12 {
-        let at = j * 20;
+        let at = j * rows::ENTRY_ROW;
         rows::put_entry(&mut l[at..], e);
     }
 }

@@ -35,7 +35,7 @@ fn gather(l: &[u32], high: Tag) -> [u32; 12]
     let mut marks = [0u32; 12];
     let mut j: usize = 0;
     while j < 12 {
-        let at = j * 20;
+        let at = j * rows::ENTRY_ROW;
         marks[j] = goes(&l[at..], high);
         j += 1;
     }

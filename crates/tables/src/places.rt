@@ -3,7 +3,7 @@ ghost use mathlib.Core.Path.{_≡_};
 ghost use Prim.Native.Nat.{suc, _+_, _*_, _≤_, _<_};
 ghost use lib.ListN.{drop};
 ghost use Rattle.tables.specs.Tables.{clientAt, directoryAt, replicaAt, withClient, withDirectory};
-ghost use Rattle.tables.specs.Layouts.{flagsAt, entriesAt, slotsAt, extent};
+ghost use Rattle.tables.specs.Layouts.{flagsAt, gapAt, entriesAt, slotsAt, extent};
 ghost use Rattle.tables.specs.Inner.{Fits, withDown, withEntry};
 ghost use Rattle.tables.specs.Words.{words};
 ghost use Rattle.tables.specs.Machines.{machineOf};
@@ -12,6 +12,13 @@ use crate::Directory;
 use crate::Entry;
 use crate::Layout;
 use crate::rows;
+
+// Where the spare words, the clients and the directories begin.
+pub const SPARE: usize = 7;
+
+pub const CLIENTS: usize = 16;
+
+pub const DIRECTORIES: usize = 208;
 
 // How many words a machine has.
 pub fn extent(lay: Layout) -> usize
@@ -27,6 +34,14 @@ pub fn flags_at(lay: Layout) -> usize
     ensures { λ r. ⌜ r ≡ flagsAt lay ⌝ }
 {
     208 + lay.directories * 4
+}
+
+// Where the spare words after the flags begin.
+pub fn gap_at(lay: Layout) -> usize
+    requires { ⌜ lay .directories ≤ 16 ⌝ }
+    ensures { λ r. ⌜ r ≡ gapAt lay ⌝ }
+{
+    215 + lay.directories * 4
 }
 
 // Where the entries of replica i begin.
@@ -49,7 +64,7 @@ pub fn client(lay: Layout, m: &[u32], i: usize) -> Client
     requires { ⌜ Fits lay (now m) × (i < 8) ⌝ }
     ensures { λ r. ⌜ r ≡ clientAt (machineOf lay (now (m .entry))) (suc i) ⌝ }
 {
-    let at = 16 + i * 24;
+    let at = CLIENTS + i * rows::CLIENT_ROW;
     rows::client_at(&m[at..])
 }
 
@@ -57,7 +72,7 @@ pub fn set_client(lay: Layout, m: &mut [u32], i: usize, x: Client)
     requires { ⌜ Fits lay (now m) × (i < 8) ⌝ }
     ensures { λ _. ⌜ now (m .exit) ≡ words (withClient (machineOf lay (now (m .entry))) (suc i) x) (drop (extent lay) (now (m .entry))) ⌝ }
 {
-    let at = 16 + i * 24;
+    let at = CLIENTS + i * rows::CLIENT_ROW;
     rows::put_client(&mut m[at..], x);
 }
 
@@ -65,7 +80,7 @@ pub fn directory(lay: Layout, m: &[u32], i: usize) -> Directory
     requires { ⌜ Fits lay (now m) × (i < lay .directories) ⌝ }
     ensures { λ r. ⌜ r ≡ directoryAt (machineOf lay (now (m .entry))) (suc i) ⌝ }
 {
-    let at = 208 + i * 4;
+    let at = DIRECTORIES + i * rows::DIRECTORY_ROW;
     rows::directory_at(&m[at..])
 }
 
@@ -73,7 +88,7 @@ pub fn set_directory(lay: Layout, m: &mut [u32], i: usize, x: Directory)
     requires { ⌜ Fits lay (now m) × (i < lay .directories) ⌝ }
     ensures { λ _. ⌜ now (m .exit) ≡ words (withDirectory (machineOf lay (now (m .entry))) (suc i) x) (drop (extent lay) (now (m .entry))) ⌝ }
 {
-    let at = 208 + i * 4;
+    let at = DIRECTORIES + i * rows::DIRECTORY_ROW;
     rows::put_directory(&mut m[at..], x);
 }
 
@@ -97,6 +112,6 @@ pub fn set_entry(lay: Layout, m: &mut [u32], i: usize, e: usize, x: Entry)
     requires { ⌜ Fits lay (now m) × (i < 7) × (e < 12) ⌝ }
     ensures { λ _. ⌜ now (m .exit) ≡ words (withEntry (machineOf lay (now (m .entry))) (suc i) (suc e) x) (drop (extent lay) (now (m .entry))) ⌝ }
 {
-    let at = entries_at(lay, i) + e * 20;
+    let at = entries_at(lay, i) + e * rows::ENTRY_ROW;
     rows::put_entry(&mut m[at..], x);
 }

@@ -12,6 +12,17 @@ use crate::Entry;
 use crate::Message;
 use sets::Tag;
 
+// How many words a row has, and the entries of a replica together.
+pub const CLIENT_ROW: usize = 24;
+
+pub const DIRECTORY_ROW: usize = 4;
+
+pub const ENTRY_ROW: usize = 20;
+
+pub const ENTRY_ROWS: usize = 240;
+
+pub const MESSAGE_ROW: usize = 24;
+
 // Writes r over the first words of s.
 pub fn copy_in(s: &mut [u32], r: &[u32])
     requires { ⌜ length (now r) ≤ length (now s) ⌝ }

@@ -5,6 +5,7 @@ ghost use lib.ListN.{length};
 ghost use Rattle.tables.specs.Inner.{before};
 ghost use Rattle.tables.specs.Tables.{isFree, hasTag};
 ghost use Rattle.tables.specs.Machines.{entryOf, entriesOf};
+use crate::rows;
 use sets::Tag;
 
 // The lowest free entry of a replica's 240 words, or 12 where there is none.
@@ -14,7 +15,7 @@ pub fn free_entry(l: &[u32]) -> usize
 {
     let mut e: usize = 0;
     while e < 12 {
-        if l[e * 20] == 0 {
+        if l[e * rows::ENTRY_ROW] == 0 {
             return e;
         }
         e += 1;
@@ -37,7 +38,7 @@ pub fn tag_place(l: &[u32], t: Tag) -> usize
 {
     let mut e: usize = 0;
     while e < 12 {
-        let at = e * 20;
+        let at = e * rows::ENTRY_ROW;
         if has_tag(&l[at..], t) {
             return e;
         }

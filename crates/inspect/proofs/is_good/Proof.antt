@@ -31,23 +31,22 @@ module _ (lay : Layout) (m : List ℕ) (k : Conf) (at : k ≡ confOf m) (b : Boo
   few-parties : Fits lay m → not b ≡ false → Few k
   few-parties l h = few (lay .directories) k (sym n ∙ not-false b h) (omega arith)
 
-  all-good : (flags entries slots : ℕ) → flags ≡ flagsAt lay → entries ≡ entriesAt lay + 0 * 240 → slots ≡ slotsAt lay
+  all-good : (flags gap entries slots : ℕ) → flags ≡ flagsAt lay → gap ≡ gapAt lay → entries ≡ entriesAt lay + 0 * 240 → slots ≡ slotsAt lay
       → (z c d g r s : Bool) → not b ≡ false → z ≡ zeros (take 9 (drop 7 m)) → c ≡ eachRow (clientRow k) 1 (clientsOf (rest m 16))
-      → d ≡ eachRow (directoryRow k) 1 (directoriesOf (lay .directories) (rest m 208)) → g ≡ zeros (take (entries - (flags + 7)) (drop (flags + 7) m))
+      → d ≡ eachRow (directoryRow k) 1 (directoriesOf (lay .directories) (rest m 208)) → g ≡ zeros (take (entries - gap) (drop gap m))
       → r ≡ eachRow (replicaRow k) 1 (replicasOf 7 (rest m flags) (rest m entries)) → s ≡ eachRow (slotRow k) 1 (slotsOf (rest m slots))
       → z && c && d && g && r && s ≡ good lay m
   unfolding good goodMachine machineOf
-  all-good flags entries slots fl en sl z c d g r s h p q e i j l =
+  all-good flags gap entries slots fl ga en sl z c d g r s h p q e i j l =
       let en′ : entries ≡ entriesAt lay = omega arith in
-      let gap : flags + 7 ≡ gapAt lay = omega arith in
       let five : entries - gapAt lay ≡ 5 = omega arith in
-      rw (its-room lay m, ← at, ← n, not-false b h, p, q, e, i, j, l, gap, five, rest-all m 16, rest-all m 208, rest-all m flags, rest-all m entries, rest-all m slots, fl, en′, sl)
+      rw (its-room lay m, ← at, ← n, not-false b h, p, q, e, i, j, l, ga, five, rest-all m 16, rest-all m 208, rest-all m flags, rest-all m entries, rest-all m slots, fl, en′, sl)
 
 pub is-good-spec : {M : Type 1} → statement M
 is-good-spec =
     tie.close
     (tie.spec (λ c κs. search needs) (λ c. search needs) (λ c κs. search needs) (λ c. search bad) (λ c κs. search needs)
-    (λ c. search needs) (λ c κs. search needs) (λ c κs. search needs) (λ c. search needs) (λ c. search needs)
+    (λ c κs. search needs) (λ c κs. search needs) (λ c κs. search needs) (λ c. search needs) (λ c. search needs)
     (λ c. search needs) (λ c κs. search needs) (λ c. search needs) (λ c. search needs) (λ c. search needs)
     (λ c κs. (search needs, search few-parties)) (λ c. search needs) (λ c. search needs) (λ c. search needs)
     (λ c κs. (search needs, search needs, search few-parties)) (λ c. search needs) (λ c. search needs) (λ c. search needs)
