@@ -20,8 +20,8 @@ use Rattle.tables.specs.Machines.{confOf, machineOf}
 use Rattle.tables.proofs.Read.{its-slots}
 use Rattle.inspect.proofs.Facts.{NumbersFacts, MessageFacts, message-facts}
 use Rattle.inspect.proofs.Machines.{message-good, good-machine}
-use Rattle.machine.specs.Inner.{Ready, mostOf, Arrived}
-use Rattle.machine.proofs.Parties.{numbers-of}
+use Rattle.machine.specs.Inner.{Ready, Arrived}
+use Rattle.machine.proofs.Parties.{numbers-of, many-few}
 
 -- the seven numbers of a buffer
 pub conf-of : (lay : Layout) (m : List ℕ) → confOf m ≡ machineOf lay m .conf
@@ -36,12 +36,6 @@ pub all-small : (n : ℕ) → n ≤ 16 → all n < 2 ^ 16
 all-small n h = below-two n 16 (all n) (all-lt n) h
 
 module _ (lay : Layout) (k : Conf) (n : NumbersFacts (lay .directories) k) where
-  many-few : (who : Party) → manyOf k who ≤ mostOf lay who
-  many-few Nobody = omega arith
-  many-few AClient = n .few-clients
-  many-few ADirectory = n .few-directories
-  many-few AReplica = n .few-replicas
-
   many-sixteen : lay .directories ≤ 16 → (who : Party) → manyOf k who ≤ 16
   many-sixteen h Nobody = omega arith
   many-sixteen h AClient = omega (arith, n .few-clients)

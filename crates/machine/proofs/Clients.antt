@@ -18,6 +18,7 @@ use Rattle.tables.specs.declared.Conf.{Conf}
 use Rattle.tables.specs.declared.Message.{Message}
 use Rattle.tables.specs.declared.Party.the-variants.{AClient, AReplica}
 use Rattle.tables.specs.Phases.{asksDirectories, asksReplicas}
+use Rattle.tables.specs.Inner.{mostOf}
 use Rattle.tables.specs.Tables.{Page, noMessage, isEmpty, clientAt, withSlot}
 use Rattle.tables.specs.Words.{words}
 use Rattle.tables.specs.Machines.{confOf, machineOf}
@@ -35,7 +36,7 @@ use Rattle.machine.specs.Effects.{client}
 use Rattle.machine.specs.Calls.{deliver, isDown}
 use Rattle.machine.specs.Deliver.{taken, filled, clientEffect, deliverEffect}
 use Rattle.machine.specs.Steps.{step}
-use Rattle.machine.specs.Inner.{Took, mostOf, Arrived, hasRoom, Committed, Turned}
+use Rattle.machine.specs.Inner.{Took, Arrived, hasRoom, Committed, Turned}
 use Rattle.machine.proofs.Arrivals.{conf-of, below-two}
 use Rattle.machine.proofs.Addressed.{Small, client-few}
 use Rattle.machine.proofs.Parties.{ready-numbers, few-sets, numbers-of}

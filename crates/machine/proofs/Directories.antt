@@ -16,6 +16,7 @@ use Rattle.tables.specs.declared.Directory.{Directory}
 use Rattle.tables.specs.declared.Message.{Message}
 use Rattle.tables.specs.declared.Party.the-variants.{ADirectory, AReplica}
 use Rattle.tables.specs.Layouts.{extent, base}
+use Rattle.tables.specs.Inner.{mostOf}
 use Rattle.tables.specs.Tables.{Page, noMessage, directoryAt, withSlot}
 use Rattle.tables.specs.Words.{words}
 use Rattle.tables.specs.Machines.{confOf, machineOf}
@@ -27,7 +28,7 @@ use Rattle.rules.specs.Inner.{DirectoryAble}
 use Rattle.machine.specs.Effects.{directory}
 use Rattle.machine.specs.Calls.{isDown}
 use Rattle.machine.specs.Deliver.{taken, directoryEffect, deliverEffect}
-use Rattle.machine.specs.Inner.{mostOf, Arrived, Delivered, hasRoom, Committed}
+use Rattle.machine.specs.Inner.{Arrived, Delivered, hasRoom, Committed}
 use Rattle.machine.proofs.Arrivals.{conf-of}
 use Rattle.machine.proofs.Addressed.{Small, Sends}
 use Rattle.machine.proofs.Parties.{numbers-of}

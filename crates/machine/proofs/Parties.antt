@@ -1,5 +1,5 @@
 -- A party whose number is in range, on a machine that is not bad: where its row stands.
-use mathlib.Core.Path.{_≡_, sym, _∙_}
+use mathlib.Core.Path.{_≡_, refl, sym, _∙_}
 use mathlib.Core.Bool.{Bool, true, false, not, and-false}
 use mathlib.Core.List.{List}
 use Prim.Native.Nat.{ℕ, suc, _-_, _≤_, _<_}
@@ -8,6 +8,9 @@ use borrow.Author.Tests.{not-false}
 use Rattle.tables.specs.declared.Layout.{Layout}
 use Rattle.tables.specs.declared.Conf.{Conf}
 use Rattle.tables.specs.declared.Party.{Party}
+use Rattle.tables.specs.declared.Party.the-variants.{Nobody, AClient, ADirectory, AReplica}
+use Rattle.tables.specs.Kinds.{manyOf}
+use Rattle.tables.specs.Inner.{mostOf}
 use Rattle.tables.specs.Machines.{confOf, machineOf}
 use Rattle.tables.proofs.Read.{its-room}
 use Rattle.inspect.specs.Good.{between, isParty, goodNumbers, good}
@@ -46,15 +49,21 @@ numbers-of lay m g k at = numbers-facts (lay .directories) k (ready-numbers lay 
 pub few-sets : (d : ℕ) (k : Conf) → d ≤ 16 → goodNumbers d k ≡ true → Few k
 few-sets d k h g = let n = numbers-facts d k g in record { directories = omega arith; replicas = omega arith }
 
+pub many-few : (lay : Layout) (k : Conf) (n : NumbersFacts (lay .directories) k) (who : Party) → manyOf k who ≤ mostOf lay who
+many-few lay k n Nobody = omega arith
+many-few lay k n AClient = n .few-clients
+many-few lay k n ADirectory = n .few-directories
+many-few lay k n AReplica = n .few-replicas
+
 module _ (lay : Layout) (m : List ℕ) (g : Ready lay m) (k : Conf) (at : k ≡ confOf m) (id : ℕ) (b : Bool) (h : not b ≡ false) where
   numbers : NumbersFacts (lay .directories) k
   numbers = numbers-of lay m (g .fine) k at
 
-  pub client-place : b ≡ between 1 (k .clients) id → id - 1 < 8
-  client-place e = omega (arith, numbers .few-clients, party-high id (k .clients) b e h)
+  pub party-place : (who : Party) (n : ℕ) → n ≡ manyOf k who → b ≡ between 1 n id → id - 1 < mostOf lay who
+  party-place who n q e = omega (arith, many-few lay k numbers who, q, party-low id n b e h, party-high id n b e h)
 
-  pub directory-place : b ≡ between 1 (k .directories) id → id - 1 < lay .directories
-  directory-place e = omega (arith, numbers .few-directories, party-low id (k .directories) b e h, party-high id (k .directories) b e h)
+  pub client-place : b ≡ between 1 (k .clients) id → id - 1 < 8
+  client-place e = party-place AClient (k .clients) refl e
 
   pub replica-place : b ≡ between 1 (k .replicas) id → id - 1 < 7
-  replica-place e = omega (arith, numbers .few-replicas, party-high id (k .replicas) b e h)
+  replica-place e = party-place AReplica (k .replicas) refl e

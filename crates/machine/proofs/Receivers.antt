@@ -11,6 +11,7 @@ use Rattle.tables.specs.declared.Party.{Party}
 use Rattle.tables.specs.declared.Party.the-variants.{Nobody, AClient, ADirectory, AReplica}
 use Rattle.tables.specs.Layouts.{base}
 use Rattle.tables.specs.Kinds.{receiverOf}
+use Rattle.tables.specs.Inner.{mostOf}
 use Rattle.tables.specs.Tables.{isEmpty, slotAt}
 use Rattle.tables.specs.Machines.{machineOf}
 use Rattle.inspect.specs.Good.{between}
@@ -19,7 +20,7 @@ use Rattle.rules.specs.Answers.{coded}
 use Rattle.machine.specs.Calls.{deliver}
 use Rattle.machine.specs.Refusals.{isOverfull, noSlot, refusal}
 use Rattle.machine.specs.Steps.{effectOf, step}
-use Rattle.machine.specs.Inner.{Ready, Took, mostOf, Arrived, Delivered}
+use Rattle.machine.specs.Inner.{Ready, Took, Arrived, Delivered}
 use Rattle.machine.proofs.Steps.{took-refused}
 use Rattle.machine.proofs.Parties.{party-low, party-high, party-row}
 use Rattle.machine.proofs.Landings.{tested-18, tested-22}

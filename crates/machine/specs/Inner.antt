@@ -9,13 +9,12 @@ use Rattle.sets.specs.Plain.{if_then_else_}
 use Rattle.sets.specs.Sets.{size}
 use Rattle.tables.specs.declared.Layout.{Layout}
 use Rattle.tables.specs.Layouts.{extent}
-use Rattle.tables.specs.Inner.{Fits}
+use Rattle.tables.specs.Inner.{Fits, mostOf}
 use Rattle.tables.specs.declared.Conf.{Conf}
 use Rattle.tables.specs.declared.Client.{Client}
 use Rattle.tables.specs.declared.Entry.{Entry}
 use Rattle.tables.specs.declared.Message.{Message}
 use Rattle.tables.specs.declared.Party.{Party}
-use Rattle.tables.specs.declared.Party.the-variants.{Nobody, AClient, ADirectory, AReplica}
 use Rattle.tables.specs.Tables.{Page, Replica, Machine, noMessage, replicaAt, slotAt, withSlots, noClient, noDirectory, noReplica, withReplica}
 use Rattle.tables.specs.Words.{words}
 use Rattle.tables.specs.Machines.{machineOf, rowsOf}
@@ -159,13 +158,6 @@ startStep M c phase page =
     if eqb code 0 then accepted e M else refused code [] M
 
 -- ---- deliver
-
--- how many parties of a kind there may be
-abbrev pub mostOf : Layout → Party → ℕ
-mostOf lay Nobody = 0
-mostOf lay AClient = 8
-mostOf lay ADirectory = lay .directories
-mostOf lay AReplica = 7
 
 -- x waits in slot s, counted from 0, of a buffer on which a step is taken, for a party of the kind `who`
 pub record Arrived (lay : Layout) (who : Party) (m : List ℕ) (s : ℕ) (x : Message) : Type 0 where

@@ -8,8 +8,9 @@ ghost use Rattle.tables.specs.Inner.{Fits};
 ghost use Rattle.tables.specs.Tables.{replicaAt};
 ghost use Rattle.tables.specs.Words.{words};
 ghost use Rattle.tables.specs.Machines.{machineOf};
+ghost use Rattle.tables.specs.Kinds.{manyOf};
 ghost use Rattle.rules.specs.Replica.{gossipPost};
-ghost use Rattle.machine.specs.Calls.{gossip, tidy, crash};
+ghost use Rattle.machine.specs.Calls.{gossip, tidy, crash, partyOf};
 ghost use Rattle.machine.specs.Steps.{step};
 ghost use Rattle.machine.specs.Inner.{Ready, Took, Gossips, twoOf, withTidied};
 use crate::send;
@@ -17,60 +18,34 @@ use inspect::fields;
 use mail::Post;
 use rules::Answer;
 use rules::answers;
+use tables::Conf;
 use tables::Layout;
+use tables::Party;
 use tables::places;
 use tables::rows;
 
-fn crash_client(lay: Layout, m: &mut [u32], id: u32) -> Answer
-    requires { ⌜ Ready lay (now m) ⌝ }
-    ensures { λ r. ⌜ Took lay (step (crash 1 id) (machineOf lay (now (m .entry)))) r [] (now (m .entry)) (now (m .exit)) ⌝ }
+// The kind of party that a number names.
+fn party_of(kind: u32) -> Party
+    ensures { λ r. ⌜ r ≡ partyOf kind ⌝ }
 {
-    let k = rows::conf_at(m);
-    if !fields::is_between(1, k.clients, id) {
-        return answers::coded(18);
+    match kind {
+        1 => Party::AClient,
+        2 => Party::ADirectory,
+        3 => Party::AReplica,
+        _ => Party::Nobody,
     }
-    let i = (id - 1) as usize;
-    let mut w = places::client(lay, m, i);
-    if w.down == 1 {
-        return answers::coded(19);
-    }
-    w.down = 1;
-    places::set_client(lay, m, i, w);
-    answers::coded(0)
 }
 
-fn crash_directory(lay: Layout, m: &mut [u32], id: u32) -> Answer
-    requires { ⌜ Ready lay (now m) ⌝ }
-    ensures { λ r. ⌜ Took lay (step (crash 2 id) (machineOf lay (now (m .entry)))) r [] (now (m .entry)) (now (m .exit)) ⌝ }
+// How many parties of a kind there are.
+fn many_of(k: Conf, who: Party) -> u32
+    ensures { λ r. ⌜ r ≡ manyOf k who ⌝ }
 {
-    let k = rows::conf_at(m);
-    if !fields::is_between(1, k.directories, id) {
-        return answers::coded(18);
+    match who {
+        Party::Nobody => 0,
+        Party::AClient => k.clients,
+        Party::ADirectory => k.directories,
+        Party::AReplica => k.replicas,
     }
-    let i = (id - 1) as usize;
-    let mut w = places::directory(lay, m, i);
-    if w.down == 1 {
-        return answers::coded(19);
-    }
-    w.down = 1;
-    places::set_directory(lay, m, i, w);
-    answers::coded(0)
-}
-
-fn crash_replica(lay: Layout, m: &mut [u32], id: u32) -> Answer
-    requires { ⌜ Ready lay (now m) ⌝ }
-    ensures { λ r. ⌜ Took lay (step (crash 3 id) (machineOf lay (now (m .entry)))) r [] (now (m .entry)) (now (m .exit)) ⌝ }
-{
-    let k = rows::conf_at(m);
-    if !fields::is_between(1, k.replicas, id) {
-        return answers::coded(18);
-    }
-    let i = (id - 1) as usize;
-    if places::down(lay, m, i) == 1 {
-        return answers::coded(19);
-    }
-    places::set_down(lay, m, i, 1);
-    answers::coded(0)
 }
 
 // Crash of a party: 1 client, 2 directory, 3 replica.
@@ -78,12 +53,17 @@ pub(crate) fn crash_good(lay: Layout, m: &mut [u32], kind: u32, id: u32) -> Answ
     requires { ⌜ Ready lay (now m) ⌝ }
     ensures { λ r. ⌜ Took lay (step (crash kind id) (machineOf lay (now (m .entry)))) r [] (now (m .entry)) (now (m .exit)) ⌝ }
 {
-    match kind {
-        1 => crash_client(lay, m, id),
-        2 => crash_directory(lay, m, id),
-        3 => crash_replica(lay, m, id),
-        _ => answers::coded(18),
+    let k = rows::conf_at(m);
+    let who = party_of(kind);
+    if !fields::is_between(1, many_of(k, who), id) {
+        return answers::coded(18);
     }
+    let i = (id - 1) as usize;
+    if places::down(lay, m, who, i) == 1 {
+        return answers::coded(19);
+    }
+    places::set_down(lay, m, who, i, 1);
+    answers::coded(0)
 }
 
 // Tidy at replica i, counted from 0.
@@ -104,7 +84,7 @@ pub(crate) fn tidy_good(lay: Layout, m: &mut [u32], r: u32) -> Answer
         return answers::coded(18);
     }
     let i = (r - 1) as usize;
-    if places::down(lay, m, i) == 1 {
+    if places::down(lay, m, Party::AReplica, i) == 1 {
         return answers::coded(19);
     }
     tidy_replica(lay, m, i);
@@ -136,7 +116,7 @@ pub(crate) fn gossip_good(lay: Layout, m: &mut [u32], from: u32, to: u32) -> Ans
         return answers::coded(18);
     }
     let i = (from - 1) as usize;
-    if places::down(lay, m, i) == 1 {
+    if places::down(lay, m, Party::AReplica, i) == 1 {
         return answers::coded(19);
     }
     let p = gossip_post(lay, m, i, from, to);

@@ -122,7 +122,7 @@ fn to_replica(lay: Layout, m: &mut [u32], s: usize, x: Message) -> Answer
     ensures { λ r. ⌜ Delivered lay (machineOf lay (now (m .entry))) (suc s) r (now (m .entry)) (now (m .exit)) ⌝ }
 {
     let i = (x.receiver - 1) as usize;
-    if places::down(lay, m, i) == 1 {
+    if places::down(lay, m, Party::AReplica, i) == 1 {
         crate::send::empty_slot(lay, m, s);
         return answers::coded(4);
     }

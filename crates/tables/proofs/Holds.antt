@@ -3,20 +3,20 @@ use mathlib.Core.Path.{_≡_, sym, ap, _∙_}
 use mathlib.Core.List.{List}
 use Prim.Native.Nat.{ℕ, suc, _+_, _*_, _≤_, _<_}
 use native.Mathlib.Omega.{arith}
-use lib.ListN.{length, set, drop}
+use lib.ListN.{length, drop}
 use Rattle.tables.specs.declared.Layout.{Layout}
 use Rattle.tables.specs.declared.Client.{Client}
 use Rattle.tables.specs.declared.Directory.{Directory}
 use Rattle.tables.specs.declared.Entry.{Entry}
-use Rattle.tables.specs.Layouts.{flagsAt, entriesAt, extent}
-use Rattle.tables.specs.Inner.{Fits, put, withDown, withEntry}
+use Rattle.tables.specs.Layouts.{entriesAt, extent}
+use Rattle.tables.specs.Inner.{Fits, put, withEntry}
 use Rattle.tables.specs.Tables.{Machine, withClient, withDirectory}
 use Rattle.tables.specs.Words.{clientWords, directoryWords, entryWords, words}
 use Rattle.tables.specs.Machines.{machineOf}
 use Rattle.tables.proofs.All.{length-withRow}
 use Rattle.tables.proofs.Read.{its-room}
-use Rattle.tables.proofs.Whole.{Paged, Whole, Room, wholeOf, whole-client, whole-directory, whole-down, whole-entry}
-use Rattle.tables.proofs.Round.{machine-back, words-back, rest-words, length-words, put-client, put-directory, put-down, put-entry}
+use Rattle.tables.proofs.Whole.{Paged, Whole, Room, wholeOf, whole-client, whole-directory, whole-entry}
+use Rattle.tables.proofs.Round.{machine-back, words-back, rest-words, length-words, put-client, put-directory, put-entry}
 
 pub record Holds (lay : Layout) (m : List ℕ) (M : Machine) (t : List ℕ) : Type 0 where
   pub is : m ≡ words M t
@@ -53,7 +53,7 @@ module _ {lay : Layout} {m : List ℕ} {M : Machine} {t : List ℕ} (h : Holds l
         room = r;
       }
 
-  -- a row or a flag written
+  -- a row written
   module _ (l : List ℕ) (i : ℕ) where
     pub holds-client : (x : Client) → i < 8 → Paged (x .page) → l ≡ put m (16 + i * 24) (clientWords x) → Holds lay l (withClient M (suc i) x) t
     holds-client x b p e =
@@ -69,14 +69,6 @@ module _ {lay : Layout} {m : List ℕ} {M : Machine} {t : List ℕ} (h : Holds l
           is = e ∙ ap (λ (q : List ℕ). put q (208 + i * 4) (directoryWords x)) (h .is) ∙ put-directory lay M t (h .whole) (h .room) i x b;
           whole = whole-directory (h .whole) (suc i) x;
           room = length-withRow (M .directories) (suc i) x ∙ h .room;
-        }
-
-    pub holds-down : (x : ℕ) → i < 7 → l ≡ set m (flagsAt lay + i) x → Holds lay l (withDown M (suc i) x) t
-    holds-down x b e =
-        record {
-          is = e ∙ ap (λ (q : List ℕ). set q (flagsAt lay + i) x) (h .is) ∙ put-down lay M t (h .whole) (h .room) i x b;
-          whole = whole-down (h .whole) (suc i) x;
-          room = h .room;
         }
 
     pub holds-entry : (j : ℕ) (x : Entry) → i < 7 → j < 12 → Paged (x .page) → l ≡ put m (entriesAt lay + i * 240 + j * 20) (entryWords x)

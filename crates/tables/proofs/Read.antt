@@ -1,5 +1,5 @@
 -- Where each row of the machine stands in the words, and that its words are read and written whole.
-use mathlib.Core.Path.{_≡_, refl, _∙_}
+use mathlib.Core.Path.{_≡_, refl, sym, ap, _∙_}
 use mathlib.Core.List.{List}
 use Prim.Native.Nat.{ℕ, zero, suc, _+_, _*_, _≤_, _<_}
 use native.Mathlib.Nat.{add-comm, le-of-suc-le-suc, not-suc-le-zero}
@@ -8,10 +8,16 @@ use native.Mathlib.Omega.{arith}
 use lib.ListN.{length, getD, take, drop}
 use lib.Seq.{drop-drop, getD-drop, take-add}
 use Rattle.tables.specs.declared.Layout.{Layout}
-use Rattle.tables.specs.Tables.{noClient, noDirectory, noEntry, noReplica, noMessage}
-use Rattle.tables.specs.Layouts.{flagsAt, entriesAt, slotsAt}
+use Rattle.tables.specs.declared.Client.{Client}
+use Rattle.tables.specs.declared.Directory.{Directory}
+use Rattle.tables.specs.declared.Party.{Party}
+use Rattle.tables.specs.declared.Party.the-variants.{Nobody, AClient, ADirectory, AReplica}
+use Rattle.tables.specs.Tables.{Replica, noClient, noDirectory, noEntry, noReplica, noMessage}
+use Rattle.tables.specs.Layouts.{flagsAt, entriesAt, slotsAt, extent}
+use Rattle.tables.specs.Inner.{Fits, mostOf, downAt, downOf}
 use Rattle.tables.specs.Words.{clientWords, directoryWords, entryWords, replicaWords, messageWords}
 use Rattle.tables.specs.Machines.{clientOf, directoryOf, entryOf, messageOf, clientsOf, directoriesOf, slotsOf, entriesOf, replicasOf, machineOf}
+use Rattle.tables.proofs.Parts.{first-word}
 use Rattle.tables.proofs.Table.{wider, take-cells, getD-cut, part-cut, length-rowsOf, getD-rowsOf, rowsOf-cut, rowsWords-back}
 
 -- ---- a row read and written again is its words
@@ -90,6 +96,30 @@ pub replica-at : (lay : Layout) (m : List ℕ) (i : ℕ) → i < 7
 unfolding machineOf
 replica-at lay m i h =
     replica-in 7 i (drop (flagsAt lay) m) (drop (entriesAt lay) m) h ∙ rw (getD-drop (flagsAt lay) m i 0, drop-drop (i * 240) (entriesAt lay) m)
+
+-- the down word of a party
+pub down-read : (lay : Layout) (m : List ℕ) (who : Party) (i : ℕ) → i < mostOf lay who → getD m (downAt lay who i) 0 ≡ downOf (machineOf lay m) who (suc i)
+unfolding machineOf clientOf directoryOf
+down-read lay m Nobody i h = absurd (not-suc-le-zero h)
+down-read lay m AClient i h =
+    sym (ap (λ (w : Client). w .down) (client-at (drop 16 m) i h) ∙ first-word (drop 16 m) (i * 24) ∙ getD-drop 16 m (i * 24) 0)
+down-read lay m ADirectory i h =
+    sym (ap (λ (d : Directory). d .down) (directory-at (lay .directories) (drop 208 m) i h) ∙ first-word (drop 208 m) (i * 4) ∙ getD-drop 208 m (i * 4) 0)
+down-read lay m AReplica i h = sym (ap (λ (r : Replica). r .down) (replica-at lay m i h))
+
+-- it stands in the machine
+down-in : (lay : Layout) (who : Party) (i : ℕ) → i < mostOf lay who → downAt lay who i < extent lay
+down-in lay Nobody i h = absurd (not-suc-le-zero h)
+down-in lay AClient i h = omega arith
+down-in lay ADirectory i h = omega arith
+down-in lay AReplica i h = omega arith
+
+module _ (lay : Layout) (m : List ℕ) (who : Party) (i at : ℕ) (h : Fits lay m) (b : i < mostOf lay who) (e : at ≡ downAt lay who i) where
+  pub down-low : at < 5036
+  down-low = omega (arith, down-in lay who i b, h .few, e)
+
+  pub down-inside : at < length m
+  down-inside = omega (arith, down-in lay who i b, h .long, e)
 
 -- ---- how many rows there are
 

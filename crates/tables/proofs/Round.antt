@@ -2,7 +2,7 @@
 use mathlib.Core.Path.{_≡_, refl, sym, ap, _∙_}
 use mathlib.Core.List.{List, [], _∷_, _++_, append-assoc, append-nil}
 use Prim.Native.Nat.{ℕ, zero, suc, _+_, _*_, _≤_, _<_}
-use native.Mathlib.Nat.{add-assoc, mul-one}
+use native.Mathlib.Nat.{add-zero, add-assoc, mul-one, not-suc-le-zero}
 use native.Mathlib.Omega.{arith}
 use lib.ListN.{length, getD, set, take, drop, length-append, length-drop, take-append-drop}
 use lib.Seq.{drop-at, drop-drop, take-add, take-at}
@@ -11,11 +11,13 @@ use Rattle.tables.specs.declared.Client.{Client}
 use Rattle.tables.specs.declared.Directory.{Directory}
 use Rattle.tables.specs.declared.Entry.{Entry}
 use Rattle.tables.specs.declared.Message.{Message}
+use Rattle.tables.specs.declared.Party.{Party}
+use Rattle.tables.specs.declared.Party.the-variants.{Nobody, AClient, ADirectory, AReplica}
 use Rattle.tables.specs.Rows.{rowsWords, joined}
 use Rattle.tables.specs.Layouts.{flagsAt, gapAt, entriesAt, slotsAt, extent}
-use Rattle.tables.specs.Inner.{put, withDown, withEntry}
+use Rattle.tables.specs.Inner.{put, mostOf, downAt, withDown, withEntry}
 use Rattle.tables.specs.Machines.{confOf, clientOf, directoryOf, entryOf, messageOf, clientsOf, directoriesOf, slotsOf, entriesOf, replicasOf, machineOf}
-use Rattle.tables.specs.Tables.{Replica, Machine, noReplica, replicaAt, withClient, withDirectory, withSlots}
+use Rattle.tables.specs.Tables.{Replica, Machine, noClient, noDirectory, noReplica, replicaAt, withClient, withDirectory, withSlots}
 use Rattle.tables.specs.Words.{confWords, clientWords, directoryWords, downWords, entryWords, replicaWords, messageWords, blocks, words}
 use Rattle.tables.proofs.All.{All, none, cons, all-of, all-map}
 use Rattle.tables.proofs.Table.{Wide, wider, take-cells, set-put, length-rows, rows-same, rows-set, rowsOf-back, rowsWords-back}
@@ -214,10 +216,19 @@ module _ (lay : Layout) (M : Machine) (t : List ℕ) (z : Whole M) (room : Room 
   unfolding words blocks
   put-slots xs e = block-all (blocks M t) 7 (slotsAt lay) (omega arith) at-slots (rowsWords messageWords xs) (omega (arith, e, slots-long))
 
-  -- a flag is a word; the replica's entries stay
-  pub put-down : (i x : ℕ) → i < 7 → set (words M t) (flagsAt lay + i) x ≡ words (withDown M (suc i) x) t
-  unfolding words blocks downWords replicaWords
-  put-down i x h =
+  -- a down word is the first of its row; a replica's stands alone, and its entries stay
+  pub put-down : (who : Party) (i x : ℕ) → i < mostOf lay who → set (words M t) (downAt lay who i) x ≡ words (withDown M who (suc i) x) t
+  unfolding words blocks clientWords directoryWords downWords replicaWords put
+  put-down Nobody i x h = absurd (not-suc-le-zero h)
+  put-down AClient i x h =
+      set-put (words M t) (16 + i * 24) x (rw length-words (omega arith))
+      ∙ ap (λ (k : ℕ). put (words M t) (16 + k) (x ∷ [])) (sym (add-zero (i * 24)))
+      ∙ block-put clientWords 24 (blocks M t) 2 16 (omega arith) at-clients clients-wide refl i 0 _ noClient (x ∷ []) (rw (z .clients) h) (omega arith) refl
+  put-down ADirectory i x h =
+      set-put (words M t) (208 + i * 4) x (rw length-words (omega arith))
+      ∙ ap (λ (k : ℕ). put (words M t) (208 + k) (x ∷ [])) (sym (add-zero (i * 4)))
+      ∙ block-put directoryWords 4 (blocks M t) 3 208 (omega arith) at-directories directories-wide refl i 0 _ noDirectory (x ∷ []) (rw room h) (omega arith) refl
+  put-down AReplica i x h =
       let new : Replica = record { down = x; entries = replicaAt M (suc i) .entries } in
       rw (rows-same replicaWords (M .replicas) i new noReplica refl)
       (set-put (words M t) (flagsAt lay + i) x (rw length-words (omega arith))

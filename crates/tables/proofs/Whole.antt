@@ -13,7 +13,7 @@ use Rattle.tables.specs.declared.Message.{Message}
 use Rattle.tables.specs.Rows.{row}
 use Rattle.tables.specs.Tables.{Page, Replica, Machine, noPage, noClient, noEntry, noReplica, noMessage, clientAt, replicaAt, slotAt, withClient, withDirectory, withReplica, withSlots}
 use Rattle.tables.specs.Layouts.{flagsAt, gapAt, entriesAt, slotsAt, extent}
-use Rattle.tables.specs.Inner.{withDown, withEntry}
+use Rattle.tables.specs.Inner.{withEntry}
 use Rattle.tables.specs.Machines.{clientOf, entryOf, messageOf, clientsOf, slotsOf, entriesOf, replicasOf, machineOf}
 use Rattle.tables.proofs.All.{All, none, cons, all-replicate, all-row, all-withRow, length-withRow}
 use Rattle.tables.proofs.Table.{wider, rowsOf-all}
@@ -148,10 +148,6 @@ module _ {M : Machine} (z : Whole M) where
         stocks = all-withRow r x p (z .stocks);
         slot-pages = z .slot-pages;
       }
-
-  pub whole-down : (r x : ℕ) → Whole (withDown M r x)
-  whole-down r x =
-      let s = replica-stocked r in whole-replica r _ (record { many = s .many; pages = s .pages })
 
   pub whole-entry : (r e : ℕ) (x : Entry) → Paged (x .page) → Whole (withEntry M r e x)
   whole-entry r e x p =

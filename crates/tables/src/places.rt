@@ -2,15 +2,16 @@
 ghost use mathlib.Core.Path.{_≡_};
 ghost use Prim.Native.Nat.{suc, _+_, _*_, _≤_, _<_};
 ghost use lib.ListN.{drop};
-ghost use Rattle.tables.specs.Tables.{clientAt, directoryAt, replicaAt, withClient, withDirectory};
+ghost use Rattle.tables.specs.Tables.{clientAt, directoryAt, withClient, withDirectory};
 ghost use Rattle.tables.specs.Layouts.{flagsAt, gapAt, entriesAt, slotsAt, extent};
-ghost use Rattle.tables.specs.Inner.{Fits, withDown, withEntry};
+ghost use Rattle.tables.specs.Inner.{Fits, mostOf, downAt, downOf, withDown, withEntry};
 ghost use Rattle.tables.specs.Words.{words};
 ghost use Rattle.tables.specs.Machines.{machineOf};
 use crate::Client;
 use crate::Directory;
 use crate::Entry;
 use crate::Layout;
+use crate::Party;
 use crate::rows;
 
 // Where the spare words, the clients and the directories begin.
@@ -92,19 +93,32 @@ pub fn set_directory(lay: Layout, m: &mut [u32], i: usize, x: Directory)
     rows::put_directory(&mut m[at..], x);
 }
 
-// A replica's down flag.
-pub fn down(lay: Layout, m: &[u32], i: usize) -> u32
-    requires { ⌜ Fits lay (now m) × (i < 7) ⌝ }
-    ensures { λ r. ⌜ r ≡ replicaAt (machineOf lay (now (m .entry))) (suc i) .down ⌝ }
+// Where the down word of party i of a kind stands: the first of its row, or a replica's flag.
+fn down_at(lay: Layout, who: Party, i: usize) -> usize
+    requires { ⌜ (lay .directories ≤ 16) × (i < mostOf lay who) ⌝ }
+    ensures { λ r. ⌜ r ≡ downAt lay who i ⌝ }
 {
-    m[flags_at(lay) + i]
+    match who {
+        Party::Nobody => 0,
+        Party::AClient => CLIENTS + i * rows::CLIENT_ROW,
+        Party::ADirectory => DIRECTORIES + i * rows::DIRECTORY_ROW,
+        Party::AReplica => flags_at(lay) + i,
+    }
 }
 
-pub fn set_down(lay: Layout, m: &mut [u32], i: usize, x: u32)
-    requires { ⌜ Fits lay (now m) × (i < 7) ⌝ }
-    ensures { λ _. ⌜ now (m .exit) ≡ words (withDown (machineOf lay (now (m .entry))) (suc i) x) (drop (extent lay) (now (m .entry))) ⌝ }
+// The down word of a party.
+pub fn down(lay: Layout, m: &[u32], who: Party, i: usize) -> u32
+    requires { ⌜ Fits lay (now m) × (i < mostOf lay who) ⌝ }
+    ensures { λ r. ⌜ r ≡ downOf (machineOf lay (now (m .entry))) who (suc i) ⌝ }
 {
-    m[flags_at(lay) + i] = x;
+    m[down_at(lay, who, i)]
+}
+
+pub fn set_down(lay: Layout, m: &mut [u32], who: Party, i: usize, x: u32)
+    requires { ⌜ Fits lay (now m) × (i < mostOf lay who) ⌝ }
+    ensures { λ _. ⌜ now (m .exit) ≡ words (withDown (machineOf lay (now (m .entry))) who (suc i) x) (drop (extent lay) (now (m .entry))) ⌝ }
+{
+    m[down_at(lay, who, i)] = x;
 }
 
 // Entry e of replica i.

@@ -1,23 +1,24 @@
-use borrow.Author.Needs.{needs}
-use mathlib.Core.Path.{_≡_}
 use mathlib.Core.List.{List}
-use Prim.Native.Nat.{ℕ, _+_, _<_}
+use mathlib.Core.Path.{_≡_}
+use Prim.Native.Nat.{ℕ, suc, _<_}
+use native.Mathlib.Omega.{arith}
+use borrow.Author.Needs.{needs}
 use lib.ListN.{getD}
 use Rattle.tables.specs.declared.Layout.{Layout}
-use Rattle.tables.specs.Layouts.{flagsAt}
-use Rattle.tables.specs.Tables.{noReplica}
+use Rattle.tables.specs.declared.Party.{Party}
+use Rattle.tables.specs.Inner.{mostOf, downAt, downOf}
 use Rattle.tables.specs.Machines.{machineOf}
-use Rattle.tables.proofs.Read.{replica-at}
+use Rattle.tables.proofs.Read.{down-read, down-low, down-inside}
 use Rattle.tables.proofs.places.down.Statement.{statement}
 use Rattle.tables.proofs.places.down.Tie as tie
 
-read : (lay : Layout) (m : List ℕ) (i at : ℕ) → i < 7 → at ≡ flagsAt lay → getD m (at + i) 0 ≡ getD (machineOf lay m .replicas) i noReplica .down
-read lay m i at h e = rw (e, replica-at lay m i h)
+read : (lay : Layout) (m : List ℕ) (who : Party) (i at : ℕ) → i < mostOf lay who → at ≡ downAt lay who i → getD m at 0 ≡ downOf (machineOf lay m) who (suc i)
+read lay m who i at h e = rw e (down-read lay m who i h)
 
-returns : tie.Need-returns
-returns c = search read
+low : (c : tie.After-down-at) → c .down-at .result < 5036
+low c = search down-low
 
 pub down-spec : {M : Type 1} → statement M
 down-spec =
     tie.close
-    (tie.spec (λ c κs. search needs) (λ c. search needs) (λ c. search needs) (λ c. search needs) returns)
+    (tie.spec (λ c κs. search needs) (λ c. omega (arith, low c)) (λ c. search down-inside) (λ c. search read))
