@@ -13,7 +13,7 @@ use tables::rows;
 use tables::search;
 
 // Whether one of the first n entries has the tag.
-pub fn some_has(l: &[u32], n: usize, t: Tag) -> bool
+fn some_has(l: &[u32], n: usize, t: Tag) -> bool
     requires { ⌜ (240 ≤ length (now l)) × (n ≤ 12) ⌝ }
     ensures { λ r. ⌜ r ≡ some? (hasTag t) (take n (entriesOf (now (l .entry)))) ⌝ }
 {
@@ -29,14 +29,14 @@ pub fn some_has(l: &[u32], n: usize, t: Tag) -> bool
 }
 
 // The mark of a tag, one of 32.
-pub fn mark(t: Tag) -> u32
+fn mark(t: Tag) -> u32
     ensures { λ r. ⌜ r ≡ markOf t ⌝ }
 {
     t.number % 4 * 8 + t.client % 8 + 1
 }
 
 // The marks, and that of entry j where it is in use.
-pub fn marked(l: &[u32], j: usize, marks: u32) -> u32
+fn marked(l: &[u32], j: usize, marks: u32) -> u32
     requires { ⌜ (240 ≤ length (now l)) × (j < 12) ⌝ }
     ensures { λ r. ⌜ r ≡ markedAt (entriesOf (now (l .entry))) j marks ⌝ }
 {
@@ -51,7 +51,7 @@ pub fn marked(l: &[u32], j: usize, marks: u32) -> u32
 }
 
 // Whether an entry before entry j has the tag: without its mark none has, and none is searched.
-pub fn stands_before(l: &[u32], j: usize, marks: u32, t: Tag) -> bool
+fn stands_before(l: &[u32], j: usize, marks: u32, t: Tag) -> bool
     requires { ⌜ Next (now l) j marks ⌝ }
     ensures { λ r. ⌜ r ≡ some? (hasTag t) (take j (entriesOf (now (l .entry)))) ⌝ }
 {
@@ -59,7 +59,7 @@ pub fn stands_before(l: &[u32], j: usize, marks: u32, t: Tag) -> bool
 }
 
 // Whether entry j is good and its tag stands in no entry before it.
-pub fn entry(k: Conf, l: &[u32], j: usize, marks: u32) -> bool
+fn entry(k: Conf, l: &[u32], j: usize, marks: u32) -> bool
     requires { ⌜ Next (now l) j marks ⌝ }
     ensures { λ r. ⌜ r ≡ goodAt k (entriesOf (now (l .entry))) j ⌝ }
 {
@@ -74,7 +74,7 @@ pub fn entry(k: Conf, l: &[u32], j: usize, marks: u32) -> bool
 }
 
 // Every entry is good, and no tag stands in two.
-pub fn all(k: Conf, l: &[u32]) -> bool
+pub(crate) fn all(k: Conf, l: &[u32]) -> bool
     requires { ⌜ 240 ≤ length (now l) ⌝ }
     ensures { λ r. ⌜ r ≡ goodEntries k (entriesOf (now (l .entry))) ⌝ }
 {
@@ -90,7 +90,7 @@ pub fn all(k: Conf, l: &[u32]) -> bool
     true
 }
 
-pub fn some_secured(l: &[u32]) -> bool
+pub(crate) fn some_secured(l: &[u32]) -> bool
     requires { ⌜ 240 ≤ length (now l) ⌝ }
     ensures { λ r. ⌜ r ≡ some? isSecured (entriesOf (now (l .entry))) ⌝ }
 {

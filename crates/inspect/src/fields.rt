@@ -7,7 +7,7 @@ use sets::Tag;
 use tables::Conf;
 
 // The words joined by `|`.
-pub fn joined(s: &[u32]) -> u32
+pub(crate) fn joined(s: &[u32]) -> u32
     ensures { λ r. ⌜ eqb r 0 ≡ zeros (now (s .entry)) ⌝ }
 {
     let mut any: u32 = 0;
@@ -20,7 +20,7 @@ pub fn joined(s: &[u32]) -> u32
 }
 
 // Whether every word is zero.
-pub fn zero(s: &[u32]) -> bool
+pub(crate) fn zero(s: &[u32]) -> bool
     ensures { λ r. ⌜ r ≡ zeros (now (s .entry)) ⌝ }
 {
     joined(s) == 0
@@ -47,21 +47,21 @@ pub fn is_between(low: u32, high: u32, n: u32) -> bool
     (low <= n) & (n <= high)
 }
 
-pub fn tag(k: Conf, t: Tag) -> bool
+pub(crate) fn tag(k: Conf, t: Tag) -> bool
     ensures { λ r. ⌜ r ≡ goodTag k t ⌝ }
 {
     tag_within(k.top, k.clients, t)
 }
 
 // At most that number and that client, and both are 0 or neither is.
-pub fn tag_within(number: u32, client: u32, t: Tag) -> bool
+pub(crate) fn tag_within(number: u32, client: u32, t: Tag) -> bool
     ensures { λ r. ⌜ r ≡ tagWithin number client t ⌝ }
 {
     (t.number <= number) & (t.client <= client) & ((t.number == 0) == (t.client == 0))
 }
 
 // How many sets of n parties there are.
-pub fn sets_of(n: u32) -> u32
+pub(crate) fn sets_of(n: u32) -> u32
     requires { ⌜ n ≤ 31 ⌝ }
     ensures { λ r. ⌜ r ≡ 2 ^ n ⌝ }
 {

@@ -7,10 +7,10 @@ use tables::places;
 use tables::rows;
 
 pub mod fields; // fields.rt: numbers, tags, sets, runs of zeros
-pub mod limits; // limits.rt: what a row may hold, by kind and by phase
-pub mod row; // row.rt: one row
-pub mod entries; // entries.rt: the entries of one replica
-pub mod table; // table.rt: every row of a table
+mod limits; // limits.rt: what a row may hold, by kind and by phase
+mod row; // row.rt: one row
+mod entries; // entries.rt: the entries of one replica
+mod table; // table.rt: every row of a table
 
 // Whether the machine that a buffer begins with is not bad.
 pub fn is_good(lay: Layout, m: &[u32]) -> bool

@@ -4,7 +4,7 @@ ghost use Rattle.inspect.specs.Inner.{Few, limitsOf, kindTable, phaseTab
 use crate::fields;
 use tables::Conf;
 
-pub struct Limits {
+pub(crate) struct Limits {
     pub first: u32, // at most: a message's sender, a client's answered set
     pub second: u32, // a message's receiver
     pub number: u32, // the tag's number
@@ -16,7 +16,7 @@ pub struct Limits {
 }
 
 // A row of a table of limits.
-pub fn row(l: [u32; 8]) -> Limits
+pub(crate) fn row(l: [u32; 8]) -> Limits
     ensures { λ r. ⌜ r ≡ limitsOf l ⌝ }
 {
     Limits {
@@ -32,7 +32,7 @@ pub fn row(l: [u32; 8]) -> Limits
 }
 
 // By kind.
-pub fn kinds(k: Conf) -> [[u32; 8]; 16]
+pub(crate) fn kinds(k: Conf) -> [[u32; 8]; 16]
     requires { ⌜ Few k ⌝ }
     ensures { λ r. ⌜ r ≡ kindTable k ⌝ }
 {
@@ -63,7 +63,7 @@ pub fn kinds(k: Conf) -> [[u32; 8]; 16]
 }
 
 // By phase.
-pub fn phases(k: Conf) -> [[u32; 8]; 7]
+pub(crate) fn phases(k: Conf) -> [[u32; 8]; 7]
     requires { ⌜ Few k ⌝ }
     ensures { λ r. ⌜ r ≡ phaseTable k ⌝ }
 {

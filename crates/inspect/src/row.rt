@@ -11,7 +11,7 @@ use tables::Directory;
 use tables::Message;
 
 // The fields that a client and a message share. Of the page, the words joined are told.
-pub fn shared(y: Limits, t: Tag, set: u32, n: u32, spare: u32, page: u32) -> bool
+fn shared(y: Limits, t: Tag, set: u32, n: u32, spare: u32, page: u32) -> bool
     ensures { λ r. ⌜ r ≡ within y t set n spare page ⌝ }
 {
     fields::tag_within(y.number, y.client, t)
@@ -21,13 +21,13 @@ pub fn shared(y: Limits, t: Tag, set: u32, n: u32, spare: u32, page: u32) -> boo
         & (page <= y.page)
 }
 
-pub fn client(y: Limits, w: Client, page: u32) -> bool
+pub(crate) fn client(y: Limits, w: Client, page: u32) -> bool
     ensures { λ r. ⌜ r ≡ clientWithin y w page ⌝ }
 {
     (w.down <= 1) & (w.answered <= y.first) & shared(y, w.tag, w.replicas, w.number, w.spare, page)
 }
 
-pub fn directory(k: Conf, d: Directory) -> bool
+pub(crate) fn directory(k: Conf, d: Directory) -> bool
     requires { ⌜ Few k ⌝ }
     ensures { λ r. ⌜ r ≡ goodDirectory k d ⌝ }
 {
@@ -35,7 +35,7 @@ pub fn directory(k: Conf, d: Directory) -> bool
     (d.down <= 1) & fields::tag(k, t) & (d.set < fields::sets_of(k.replicas))
 }
 
-pub fn message(y: Limits, x: Message, page: u32) -> bool
+pub(crate) fn message(y: Limits, x: Message, page: u32) -> bool
     ensures { λ r. ⌜ r ≡ messageWithin y x page ⌝ }
 {
     fields::is_between(1, y.first, x.sender)

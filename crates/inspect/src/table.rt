@@ -16,7 +16,7 @@ use tables::Conf;
 use tables::rows;
 
 // By the limits of its phase: t is their table, of whatever numbers k.
-pub fn client(t: &[[u32; 8]], used: bool, l: &[u32]) -> bool
+fn client(t: &[[u32; 8]], used: bool, l: &[u32]) -> bool
     requires { ⌜ (length (now t) ≡ 7) × (length (now l) ≡ 24) ⌝ }
     ensures { λ r. ⌜ ((k : Conf) → now (t .entry) ≡ phaseTable k
         → r ≡ (if used then goodClient k (clientOf (now (l .entry))) else zeros (clientWords (clientOf (now (l .entry)))))) ⌝ }
@@ -34,7 +34,7 @@ pub fn client(t: &[[u32; 8]], used: bool, l: &[u32]) -> bool
     fields::zero(l)
 }
 
-pub fn clients(k: Conf, l: &[u32]) -> bool
+pub(crate) fn clients(k: Conf, l: &[u32]) -> bool
     requires { ⌜ (192 ≤ length (now l)) × Few k ⌝ }
     ensures { λ r. ⌜ r ≡ eachRow (clientRow k) 1 (clientsOf (now (l .entry))) ⌝ }
 {
@@ -51,7 +51,7 @@ pub fn clients(k: Conf, l: &[u32]) -> bool
     true
 }
 
-pub fn directory(k: Conf, used: bool, l: &[u32]) -> bool
+fn directory(k: Conf, used: bool, l: &[u32]) -> bool
     requires { ⌜ FewIn k 4 (now l) ⌝ }
     ensures { λ r. ⌜ r ≡ (if used then goodDirectory k (directoryOf (now (l .entry))) else zeros (directoryWords (directoryOf (now (l .entry))))) ⌝ }
 {
@@ -63,7 +63,7 @@ pub fn directory(k: Conf, used: bool, l: &[u32]) -> bool
 }
 
 // A table of n rows.
-pub fn directories(k: Conf, n: usize, l: &[u32]) -> bool
+pub(crate) fn directories(k: Conf, n: usize, l: &[u32]) -> bool
     requires { ⌜ (n * 4 ≤ length (now l)) × (n ≤ 16) × Few k ⌝ }
     ensures { λ r. ⌜ r ≡ eachRow (directoryRow k) 1 (directoriesOf n (now (l .entry))) ⌝ }
 {
@@ -79,7 +79,7 @@ pub fn directories(k: Conf, n: usize, l: &[u32]) -> bool
 }
 
 // A replica by its flag and its 240 words.
-pub fn replica(k: Conf, used: bool, down: u32, l: &[u32]) -> bool
+fn replica(k: Conf, used: bool, down: u32, l: &[u32]) -> bool
     requires { ⌜ length (now l) ≡ 240 ⌝ }
     ensures { λ r. ⌜ r ≡ replicaIn k used down (now (l .entry)) ⌝ }
 {
@@ -90,7 +90,7 @@ pub fn replica(k: Conf, used: bool, down: u32, l: &[u32]) -> bool
 }
 
 // Two tables: the down flags, and the entries.
-pub fn replicas(k: Conf, flags: &[u32], l: &[u32]) -> bool
+pub(crate) fn replicas(k: Conf, flags: &[u32], l: &[u32]) -> bool
     requires { ⌜ (7 ≤ length (now flags)) × (1680 ≤ length (now l)) ⌝ }
     ensures { λ r. ⌜ r ≡ eachRow (replicaRow k) 1 (replicasOf 7 (now (flags .entry)) (now (l .entry))) ⌝ }
 {
@@ -107,7 +107,7 @@ pub fn replicas(k: Conf, flags: &[u32], l: &[u32]) -> bool
 }
 
 // By the limits of its kind.
-pub fn slot(t: &[[u32; 8]], l: &[u32]) -> bool
+fn slot(t: &[[u32; 8]], l: &[u32]) -> bool
     requires { ⌜ (length (now t) ≡ 16) × (length (now l) ≡ 24) ⌝ }
     ensures { λ r. ⌜ ((k : Conf) → now (t .entry) ≡ kindTable k → r ≡ slotRow k 0 (messageOf (now (l .entry)))) ⌝ }
 {
@@ -124,7 +124,7 @@ pub fn slot(t: &[[u32; 8]], l: &[u32]) -> bool
     row::message(y, x, page)
 }
 
-pub fn slots(k: Conf, l: &[u32]) -> bool
+pub(crate) fn slots(k: Conf, l: &[u32]) -> bool
     requires { ⌜ (3072 ≤ length (now l)) × Few k ⌝ }
     ensures { λ r. ⌜ r ≡ eachRow (slotRow k) 1 (slotsOf (now (l .entry))) ⌝ }
 {
