@@ -55,19 +55,19 @@ fewer chunk s m l r m' l' out' h g = omega (arith, ltb-true (s .from) (length ch
 -- all of a chunk
 pub drained : (chunk : List ℕ) (s : State) (m l : List ℕ) (r : State) (m' l' : List ℕ)
     → Written chunk (record { lines = s .lines; len = s .len; from = 0; at = 0; on = true }) m l r m' l'
-    → ltb (r .from) (length chunk) ≡ false → r .on ≡ true → Drained chunk s m l r m' l'
-drained chunk s m l r m' l' g h y =
+    → ltb (r .from) (length chunk) ≡ false → Drained chunk s m l r m' l'
+drained chunk s m l r m' l' g h =
     let e : r .from ≡ length chunk = omega (arith, g .goes .high, ltb-false (r .from) (length chunk) h) in
     let z : drop (r .from) chunk ≡ [] = ap (λ (k : ℕ). drop k chunk) e ∙ drop-length chunk in
     record {
       text = g .text;
-      went = λ p k.
+      went = λ y p k.
           let b = g .goes .went p k in
           record { pending = b .pending; held = b .held; same = λ later. rw z at (b .same later) };
     }
 
-pub stopped : (chunk : List ℕ) (s : State) (m l : List ℕ) (r : State) (m' l' : List ℕ) → r .on ≡ false → r .on ≡ true → Drained chunk s m l r m' l'
-stopped chunk s m l r m' l' n y = absurd (let z : _≡_ {A = ℕ} 0 1 = cc in omega arith)
+pub stopped : (chunk : List ℕ) (s : State) (m l : List ℕ) (r : State) (m' l' : List ℕ) → r .on ≡ false → Drained chunk s m l r m' l'
+stopped chunk s m l r m' l' n = record { text = []; went = λ y. absurd (let z : _≡_ {A = ℕ} 0 1 = cc in omega arith) }
 
 -- the end of the input
 module _ (s : State) (b : Bool) (u : (p l : List ℕ) → Held p l (s .len) → malformedIf b ≡ unfinished p) where

@@ -8,8 +8,8 @@ use Rattle.schedule.specs.declared.Command.{Command}
 use Rattle.schedule.specs.Input.{Held}
 use Rattle.schedule.specs.Inner.{Printed}
 use Rattle.rehearse.specs.declared.State.{State}
-use Rattle.rehearse.specs.Rehearsal.{callOf, outcomeOf, printed, following}
-use Rattle.rehearse.specs.Pieces.{Stand, ahead}
+use Rattle.rehearse.specs.Rehearsal.{callOf, outcomeOf, printed, following, rehearsal}
+use Rattle.rehearse.specs.Pieces.{Stand, start, ahead, Taken}
 
 -- the buffers of the pending line and the output
 pub record Buffers (l o : List ℕ) : Type 0 where
@@ -60,10 +60,10 @@ pub record Consumed (chunk : List ℕ) (s : State) (m l : List ℕ) (r : State) 
   pub some : min (s .from + 1) (length chunk) ≤ r .from
   pub room : r .at ≤ 65536
 
--- a whole chunk: the text is what was written out, one output after the other
+-- a whole chunk, where the program goes on: the text is what was written out, one output after the other
 pub record Drained (chunk : List ℕ) (s : State) (m l : List ℕ) (r : State) (m' l' : List ℕ) : Type 0 where
   pub text : List ℕ
-  pub went : (p : List ℕ) → Held p l (s .len) → Went (stand s m p) [] chunk r m' l' text []
+  pub went : r .on ≡ true → (p : List ℕ) → Held p l (s .len) → Went (stand s m p) [] chunk r m' l' text []
 
 -- before the first line
 pub record Fresh (s : State) : Type 0 where
@@ -74,3 +74,22 @@ pub record Fresh (s : State) : Type 0 where
 pub record Ended (s : State) (out' : List ℕ) (r : ℕ) : Type 0 where
   pub room : r ≤ 65536
   pub text : (p l m : List ℕ) → Held p l (s .len) → take r out' ≡ ahead (stand s m p) []
+
+-- the program after an input, in which it wrote a text
+pub record Reached (l w m line : List ℕ) (s : State) : Type 0 where
+  pub pending : List ℕ
+  pub held : Held pending line (s .len)
+  pub taken : Taken start l w (stand s m pending)
+
+-- it stands so after some input: which one it was, only the C library could say
+pub record Reads (m line : List ℕ) (s : State) : Type 0 where
+  pub input : List ℕ
+  pub text : List ℕ
+  pub reached : Reached input text m line s
+
+-- it stands at the input's end: what was written before, and then the output's first bytes, is the rehearsal of that input
+pub record Rehearsed (m line out : List ℕ) : Type 0 where
+  pub state : State
+  pub reads : Reads m line state
+  pub size : ℕ
+  pub whole : rehearsal (reads .input) ≡ reads .text ++ take size out

@@ -7,7 +7,7 @@ ghost use Rattle.schedule.specs.Text.{answerText};
 ghost use Rattle.schedule.specs.Inner.{Printed};
 ghost use Rattle.rehearse.specs.Rehearsal.{pageOf, following};
 ghost use Rattle.rehearse.specs.Pieces.{start};
-ghost use Rattle.rehearse.specs.Turns.{Buffers, Responded, Answered, Turned, Consumed, Drained, Fresh, Ended};
+ghost use Rattle.rehearse.specs.Turns.{Buffers, Responded, Answered, Turned, Consumed, Drained, Fresh, Ended, Rehearsed};
 use rules::Answer;
 use schedule::Command;
 use schedule::input;
@@ -165,7 +165,7 @@ fn pass(m: &mut [u32], line: &mut [u8], out: &mut [u8], chunk: &[u8], s: State) 
 // All of a chunk.
 fn drain(m: &mut [u32], line: &mut [u8], out: &mut [u8], chunk: &[u8], s0: State) -> State
     requires { ⌜ Buffers (now line) (now out) ⌝ }
-    ensures { λ r. ⌜ (r .on ≡ true → Drained (now (chunk .entry)) s0 (now (m .entry)) (now (line .entry)) r (now (m .exit)) (now (line .exit))) ⌝ }
+    ensures { λ r. ⌜ Drained (now (chunk .entry)) s0 (now (m .entry)) (now (line .entry)) r (now (m .exit)) (now (line .exit)) ⌝ }
 {
     let mut s = State {
         lines: s0.lines,
@@ -204,10 +204,12 @@ fn fresh() -> State
     }
 }
 
-// Reads the input piece by piece, up to its end. That `chunk` has what is read, and `out` what is written, is the C library's.
-fn run(m: &mut [u32], line: &mut [u8], out: &mut [u8], chunk: &mut [u8])
+// Reads the input piece by piece; true where nothing more is to be read and the last of the output is written.
+// That `chunk` has what is read, and `out` what is written, is the C library's.
+fn run(m: &mut [u32], line: &mut [u8], out: &mut [u8], chunk: &mut [u8]) -> bool
     requires { ⌜ now m ≡ start .machine ⌝ }
     requires { ⌜ Buffers (now line) (now out) ⌝ }
+    ensures { λ r. ⌜ (r ≡ true → Rehearsed (now (m .exit)) (now (line .exit)) (now (out .exit))) ⌝ }
 {
     let mut turns = u64::MAX;
     let mut s = fresh();
@@ -215,13 +217,13 @@ fn run(m: &mut [u32], line: &mut [u8], out: &mut [u8], chunk: &mut [u8])
         let got = libc::read(0, chunk);
         if got <= 0 {
             let at = ending(out, s);
-            flush(out, at);
-            return;
+            return flush(out, at);
         }
         let n = io::count(got, chunk);
         s = drain(m, line, out, &chunk[..n], s);
         turns -= 1;
     }
+    false
 }
 
 fn main() {
