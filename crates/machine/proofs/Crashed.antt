@@ -12,15 +12,15 @@ use Rattle.tables.specs.declared.Party.{Party}
 use Rattle.tables.specs.declared.Party.the-variants.{Nobody, AClient, ADirectory, AReplica}
 use Rattle.tables.specs.Layouts.{extent}
 use Rattle.tables.specs.Kinds.{manyOf}
-use Rattle.tables.specs.Tables.{Machine}
-use Rattle.tables.specs.Inner.{downOf, withDown}
+use Rattle.tables.specs.Tables.{Machine, downWord}
+use Rattle.tables.specs.Inner.{withDown}
 use Rattle.tables.specs.Words.{words}
 use Rattle.tables.specs.Machines.{confOf, machineOf}
 use Rattle.inspect.specs.Good.{between, isParty}
 use Rattle.rules.specs.declared.Answer.{Answer}
 use Rattle.rules.specs.Answers.{coded}
 use Rattle.machine.specs.Effects.{Change, changed}
-use Rattle.machine.specs.Calls.{crash, partyOf, downWord, downed, crashEffect}
+use Rattle.machine.specs.Calls.{crash, partyOf, downed, crashEffect}
 use Rattle.machine.specs.Refusals.{refusal}
 use Rattle.machine.specs.Steps.{effectOf, step}
 use Rattle.machine.specs.Inner.{Ready, Took}
@@ -28,13 +28,7 @@ use Rattle.machine.proofs.Parties.{party-row, own-party}
 use Rattle.machine.proofs.Quiet.{quiet-fits, quiet-applied}
 use Rattle.machine.proofs.Steps.{took-refused, took-accepted}
 
--- the down word that is read and written is the one of the definitions
-down-is : (M : Machine) (who : Party) (p : ℕ) → downWord M who p ≡ downOf M who p
-down-is M Nobody p = refl
-down-is M AClient p = refl
-down-is M ADirectory p = refl
-down-is M AReplica p = refl
-
+-- the machine that is written is the one of the definitions
 downed-is : (M : Machine) (who : Party) (p : ℕ) → withDown M who p 1 ≡ changed (downed M who p) M
 downed-is M Nobody p = refl
 downed-is M AClient p = refl
@@ -52,14 +46,14 @@ module _ (lay : Layout) (m : List ℕ) (g : Ready lay m) (kind id : ℕ) (k : Co
   crash-out h q = took-refused lay (crash kind id) m 18 a (g .long) (λ z. omega arith) (rw (party-is, not-true b h)) q
 
   -- d is the down word of its row, whose place counts from 0
-  module _ (h : not b ≡ false) (d : ℕ) (f : d ≡ downOf (machineOf lay m) who (suc (id - 1))) where
+  module _ (h : not b ≡ false) (d : ℕ) (f : d ≡ downWord (machineOf lay m) who (suc (id - 1))) where
     row-is : suc (id - 1) ≡ id
     row-is = party-row id n b e h
 
     own-down : downWord (machineOf lay m) (partyOf kind) id ≡ d
     own-down =
         subst (λ (p : ℕ). downWord (machineOf lay m) (partyOf kind) p ≡ d) row-is
-        (ap (λ (w : Party). downWord (machineOf lay m) w (suc (id - 1))) (sym o) ∙ down-is (machineOf lay m) who (suc (id - 1)) ∙ sym f)
+        (ap (λ (w : Party). downWord (machineOf lay m) w (suc (id - 1))) (sym o) ∙ sym f)
 
     pub crash-down : d ≡ 1 → a ≡ coded 19 → Took lay (step (crash kind id) (machineOf lay m)) a [] m m
     unfolding refusal

@@ -6,7 +6,7 @@ use Rattle.tables.specs.declared.Client.{Client}
 use Rattle.tables.specs.declared.Directory.{Directory}
 use Rattle.tables.specs.declared.Party.{Party}
 use Rattle.tables.specs.declared.Party.the-variants.{Nobody, AClient, ADirectory, AReplica}
-use Rattle.tables.specs.Tables.{Page, Replica, Machine, clientAt, directoryAt, replicaAt}
+use Rattle.tables.specs.Tables.{Page, Replica, Machine, clientAt, directoryAt, replicaAt, downWord}
 use Rattle.mail.specs.declared.Post.{Post}
 use Rattle.mail.specs.Posts.{noPost}
 use Rattle.rules.specs.Answers.{coded}
@@ -71,12 +71,6 @@ asked test (some a) = test a
 -- ---- effects
 
 -- the party of a kind that a number names is down
-abbrev pub downWord : Machine → Party → ℕ → ℕ
-downWord M Nobody p = 0
-downWord M AClient p = clientAt M p .down
-downWord M ADirectory p = directoryAt M p .down
-downWord M AReplica p = replicaAt M p .down
-
 abbrev pub isDown : Machine → Party → ℕ → Bool
 isDown M who p = eqb (downWord M who p) 1
 

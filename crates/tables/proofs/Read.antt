@@ -12,9 +12,9 @@ use Rattle.tables.specs.declared.Client.{Client}
 use Rattle.tables.specs.declared.Directory.{Directory}
 use Rattle.tables.specs.declared.Party.{Party}
 use Rattle.tables.specs.declared.Party.the-variants.{Nobody, AClient, ADirectory, AReplica}
-use Rattle.tables.specs.Tables.{Replica, noClient, noDirectory, noEntry, noReplica, noMessage}
+use Rattle.tables.specs.Tables.{Replica, noClient, noDirectory, noEntry, noReplica, noMessage, downWord}
 use Rattle.tables.specs.Layouts.{flagsAt, entriesAt, slotsAt, extent}
-use Rattle.tables.specs.Inner.{Fits, mostOf, downAt, downOf}
+use Rattle.tables.specs.Inner.{Fits, mostOf, downAt}
 use Rattle.tables.specs.Words.{clientWords, directoryWords, entryWords, replicaWords, messageWords}
 use Rattle.tables.specs.Machines.{clientOf, directoryOf, entryOf, messageOf, clientsOf, directoriesOf, slotsOf, entriesOf, replicasOf, machineOf}
 use Rattle.tables.proofs.Parts.{first-word}
@@ -98,7 +98,7 @@ replica-at lay m i h =
     replica-in 7 i (drop (flagsAt lay) m) (drop (entriesAt lay) m) h ∙ rw (getD-drop (flagsAt lay) m i 0, drop-drop (i * 240) (entriesAt lay) m)
 
 -- the down word of a party
-pub down-read : (lay : Layout) (m : List ℕ) (who : Party) (i : ℕ) → i < mostOf lay who → getD m (downAt lay who i) 0 ≡ downOf (machineOf lay m) who (suc i)
+pub down-read : (lay : Layout) (m : List ℕ) (who : Party) (i : ℕ) → i < mostOf lay who → getD m (downAt lay who i) 0 ≡ downWord (machineOf lay m) who (suc i)
 unfolding machineOf clientOf directoryOf
 down-read lay m Nobody i h = absurd (not-suc-le-zero h)
 down-read lay m AClient i h =

@@ -42,13 +42,7 @@ downAt lay AClient i = 16 + i * 24
 downAt lay ADirectory i = 208 + i * 4
 downAt lay AReplica i = flagsAt lay + i
 
--- the down word of party p, and the machine with another
-abbrev pub downOf : Machine → Party → ℕ → ℕ
-downOf M Nobody p = 0
-downOf M AClient p = clientAt M p .down
-downOf M ADirectory p = directoryAt M p .down
-downOf M AReplica p = replicaAt M p .down
-
+-- the machine with another down word of party p
 abbrev pub withDown : Machine → Party → ℕ → ℕ → Machine
 withDown M Nobody p x = M
 withDown M AClient p x =

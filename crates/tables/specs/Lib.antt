@@ -1,4 +1,4 @@
--- What the tables are: rows of words, the machine as records, and which fields each kind and phase uses. A reader must believe all but Machines, which Words determines, and Inner, which may change with the code.
+-- What the tables are: rows of words, the machine as records, and which fields each kind and phase uses. A reader must believe all but Inner, which may change with the code.
 pub mod Rows
 pub mod Tables
 pub mod Words

@@ -7,6 +7,8 @@ use Rattle.tables.specs.declared.Client.{Client}
 use Rattle.tables.specs.declared.Directory.{Directory}
 use Rattle.tables.specs.declared.Entry.{Entry}
 use Rattle.tables.specs.declared.Message.{Message}
+use Rattle.tables.specs.declared.Party.{Party}
+use Rattle.tables.specs.declared.Party.the-variants.{Nobody, AClient, ADirectory, AReplica}
 use Rattle.tables.specs.Rows.{row, withRow}
 
 -- 16 words
@@ -59,6 +61,13 @@ replicaAt M r = row noReplica (M .replicas) r
 
 abbrev pub slotAt : Machine → ℕ → Message
 slotAt M s = row noMessage (M .slots) s
+
+-- the down word of party p of a kind
+abbrev pub downWord : Machine → Party → ℕ → ℕ
+downWord M Nobody p = 0
+downWord M AClient p = clientAt M p .down
+downWord M ADirectory p = directoryAt M p .down
+downWord M AReplica p = replicaAt M p .down
 
 -- the machine with one row replaced
 abbrev pub withClient : Machine → ℕ → Client → Machine

@@ -2,9 +2,9 @@
 ghost use mathlib.Core.Path.{_≡_};
 ghost use Prim.Native.Nat.{suc, _+_, _*_, _≤_, _<_};
 ghost use lib.ListN.{drop};
-ghost use Rattle.tables.specs.Tables.{clientAt, directoryAt, withClient, withDirectory};
+ghost use Rattle.tables.specs.Tables.{clientAt, directoryAt, downWord, withClient, withDirectory};
 ghost use Rattle.tables.specs.Layouts.{flagsAt, gapAt, entriesAt, slotsAt, extent};
-ghost use Rattle.tables.specs.Inner.{Fits, mostOf, downAt, downOf, withDown, withEntry};
+ghost use Rattle.tables.specs.Inner.{Fits, mostOf, downAt, withDown, withEntry};
 ghost use Rattle.tables.specs.Words.{words};
 ghost use Rattle.tables.specs.Machines.{machineOf};
 use crate::Client;
@@ -109,7 +109,7 @@ fn down_at(lay: Layout, who: Party, i: usize) -> usize
 // The down word of a party.
 pub fn down(lay: Layout, m: &[u32], who: Party, i: usize) -> u32
     requires { ⌜ Fits lay (now m) × (i < mostOf lay who) ⌝ }
-    ensures { λ r. ⌜ r ≡ downOf (machineOf lay (now (m .entry))) who (suc i) ⌝ }
+    ensures { λ r. ⌜ r ≡ downWord (machineOf lay (now (m .entry))) who (suc i) ⌝ }
 {
     m[down_at(lay, who, i)]
 }
