@@ -23,22 +23,22 @@ use Rattle.machine.specs.Calls.{Call, asks}
 use Rattle.machine.specs.Refusals.{refusal}
 use Rattle.machine.specs.Steps.{Result, effectOf, refused, accepted, step}
 use Rattle.machine.specs.Buffers.{wrongPage, isSetUp, left, call, Gives}
-use Rattle.machine.specs.Inner.{stateOf, Ready, Took}
+use Rattle.machine.specs.Inner.{bufferCode, Ready, Took}
 
 module _ (c : Call) (M : Machine) where
   -- what the call leads to where it is accepted
-  abbrev pub taken : Result
-  taken = accepted (effectOf c M) M
+  abbrev pub given : Result
+  given = accepted (effectOf c M) M
 
   step-refused : (code : ℕ) → (code ≡ 0 → ⊥) → refusal c M (effectOf c M) ≡ code → step c M ≡ refused code (asks c .fill) M
   unfolding step
   step-refused code z e = rw (e, ne-eqb code 0 z)
 
-  step-accepted : refusal c M (effectOf c M) ≡ 0 → step c M ≡ taken
+  step-accepted : refusal c M (effectOf c M) ≡ 0 → step c M ≡ given
   unfolding step
   step-accepted e = rw e
 
--- ---- the buffer of a step that was refused, and of one that was taken
+-- ---- the buffer of a step that was refused, and of one that was accepted
 pub took-nothing : (lay : Layout) (m p : List ℕ) (code : ℕ) (a : Answer) → Fits lay m → a ≡ coded code → Took lay (refused code p (machineOf lay m)) a p m m
 took-nothing lay m p code a l h = record { answer = h; page = refl; buffer = sym (words-back lay m (l .long)) }
 
@@ -48,7 +48,7 @@ took-refused lay c m code a l z e h =
     rw (step-refused c (machineOf lay m) code z e) (took-nothing lay m (asks c .fill) code a l h)
 
 pub took-accepted : (lay : Layout) (c : Call) (m n p : List ℕ) (a : Answer) → refusal c (machineOf lay m) (effectOf c (machineOf lay m)) ≡ 0
-    → a ≡ taken c (machineOf lay m) .answer → p ≡ taken c (machineOf lay m) .page → n ≡ words (taken c (machineOf lay m) .machine) (drop (extent lay) m)
+    → a ≡ given c (machineOf lay m) .answer → p ≡ given c (machineOf lay m) .page → n ≡ words (given c (machineOf lay m) .machine) (drop (extent lay) m)
     → Took lay (step c (machineOf lay m)) a p m n
 took-accepted lay c m n p a e h g k = rw (step-accepted c (machineOf lay m) e) (record { answer = h; page = g; buffer = k })
 
@@ -71,9 +71,9 @@ module _ (lay : Layout) (m : List ℕ) (n end : ℕ) (whole : end ≡ extent lay
   pub page-whole : n ≡ 16
   page-whole = eqb→eq n 16 (not-not (eqb n 16) (right .1))
 
-module _ (lay : Layout) (m : List ℕ) (n s : ℕ) (e : s ≡ stateOf lay m n) where
+module _ (lay : Layout) (m : List ℕ) (n s : ℕ) (e : s ≡ bufferCode lay m n) where
   both : s ≡ 0 → (ltb (length m) (extent lay) || not (eqb n 16) ≡ false) × (good lay m ≡ true)
-  unfolding stateOf
+  unfolding bufferCode
   both z = no-code (ltb (length m) (extent lay) || not (eqb n 16)) (good lay m) (sym e ∙ z)
 
   pub is-ready : lay .directories ≤ 16 → s ≡ 0 → Ready lay m
@@ -84,7 +84,7 @@ module _ (lay : Layout) (m : List ℕ) (n s : ℕ) (e : s ≡ stateOf lay m n) w
 
   module _ (c : Call) (w : wrongPage c ≡ not (eqb n 16)) (k : not (isSetUp c) ≡ true) where
     pub call-refused : (a : Answer) (p : List ℕ) → asks c .fill ≡ p → (s ≡ 0 → ⊥) → a ≡ coded s → Gives (call lay c m) a p m
-    unfolding call stateOf
+    unfolding call bufferCode
     call-refused a p x z h = rw (w, k) (go (ltb (length m) (extent lay) || not (eqb n 16)) (good lay m) e)
       where
         go : (b g : Bool) → s ≡ (if b then 16 else if not g then 17 else 0)

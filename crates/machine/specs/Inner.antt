@@ -39,8 +39,8 @@ use Rattle.machine.specs.Refusals.{noSlot, refusal}
 use Rattle.machine.specs.declared.Counts.{Counts}
 
 -- 16, 17 or 0, where the call's page has n words (16 where it has none)
-unfoldable pub stateOf : Layout → List ℕ → ℕ → ℕ
-stateOf lay m n = if ltb (length m) (extent lay) || not (eqb n 16) then 16 else if not (good lay m) then 17 else 0
+unfoldable pub bufferCode : Layout → List ℕ → ℕ → ℕ
+bufferCode lay m n = if ltb (length m) (extent lay) || not (eqb n 16) then 16 else if not (good lay m) then 17 else 0
 
 -- a buffer on which a step is taken
 pub record Ready (lay : Layout) (m : List ℕ) : Type 0 where

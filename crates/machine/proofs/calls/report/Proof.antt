@@ -18,13 +18,13 @@ use Rattle.machine.specs.Calls.{report}
 use Rattle.machine.specs.Refusals.{refusal}
 use Rattle.machine.specs.Steps.{effectOf, step}
 use Rattle.machine.specs.Buffers.{reported}
-use Rattle.machine.specs.Inner.{stateOf, Took, counts}
+use Rattle.machine.specs.Inner.{bufferCode, Took, counts}
 use Rattle.machine.proofs.Quiet.{quiet-fits, quiet-applied}
 use Rattle.machine.proofs.Steps.{took-accepted, is-ready, call-refused, call-taken}
 use Rattle.machine.proofs.calls.report.Statement.{statement}
 use Rattle.machine.proofs.calls.report.Tie as tie
 
-module _ (lay : Layout) (m : List ℕ) (s : ℕ) (e : s ≡ stateOf lay m 16) (w : lay .directories ≤ 16) where
+module _ (lay : Layout) (m : List ℕ) (s : ℕ) (e : s ≡ bufferCode lay m 16) (w : lay .directories ≤ 16) where
   long : s ≡ 0 → Fits lay m
   long z = is-ready lay m 16 s e w z .long
 

@@ -10,13 +10,13 @@ use Rattle.tables.specs.Machines.{machineOf}
 use Rattle.rules.specs.declared.Answer.{Answer}
 use Rattle.machine.specs.Calls.{startWrite}
 use Rattle.machine.specs.Buffers.{call, Gives}
-use Rattle.machine.specs.Inner.{stateOf, Took, startStep}
+use Rattle.machine.specs.Inner.{bufferCode, Took, startStep}
 use Rattle.machine.proofs.Started.{start-write}
 use Rattle.machine.proofs.Steps.{is-ready, is-sixteen, call-refused, call-taken}
 use Rattle.machine.proofs.calls.start_write.Statement.{statement}
 use Rattle.machine.proofs.calls.start_write.Tie as tie
 
-module _ (lay : Layout) (m page : List ℕ) (s : ℕ) (e : s ≡ stateOf lay m (length page)) (z : s ≡ 0) where
+module _ (lay : Layout) (m page : List ℕ) (s : ℕ) (e : s ≡ bufferCode lay m (length page)) (z : s ≡ 0) where
   wide : 16 ≤ length page
   wide = omega (arith, is-sixteen lay m (length page) s e z)
 

@@ -9,14 +9,14 @@ use Rattle.tables.specs.declared.Layout.{Layout}
 use Rattle.tables.specs.Layouts.{extent}
 use Rattle.tables.specs.Inner.{Fits}
 use Rattle.inspect.specs.Good.{good}
-use Rattle.machine.specs.Inner.{stateOf}
+use Rattle.machine.specs.Inner.{bufferCode}
 use Rattle.machine.proofs.Steps.{long-enough}
 use Rattle.machine.proofs.codes.buffer_code.Statement.{statement}
 use Rattle.machine.proofs.codes.buffer_code.Tie as tie
 
 module _ (lay : Layout) (m : List ℕ) (n end : ℕ) (whole : end ≡ extent lay) where
-  wrong : ltb (length m) end || not (eqb n 16) ≡ true → 16 ≡ stateOf lay m n
-  unfolding stateOf
+  wrong : ltb (length m) end || not (eqb n 16) ≡ true → 16 ≡ bufferCode lay m n
+  unfolding bufferCode
   wrong h = rw (← whole, h)
 
   module _ (h : ltb (length m) end || not (eqb n 16) ≡ false) where
@@ -24,12 +24,12 @@ module _ (lay : Layout) (m : List ℕ) (n end : ℕ) (whole : end ≡ extent lay
     long w = long-enough lay m n end whole h w
 
     module _ (b : Bool) (e : b ≡ good lay m) where
-      bad : not b ≡ true → 17 ≡ stateOf lay m n
-      unfolding stateOf
+      bad : not b ≡ true → 17 ≡ bufferCode lay m n
+      unfolding bufferCode
       bad z = rw (← whole, h, ← e, z)
 
-      fine : not b ≡ false → 0 ≡ stateOf lay m n
-      unfolding stateOf
+      fine : not b ≡ false → 0 ≡ bufferCode lay m n
+      unfolding bufferCode
       fine z = rw (← whole, h, ← e, z)
 
 pub buffer-code-spec : {M : Type 1} → statement M
