@@ -21,6 +21,7 @@ use Rattle.machine.specs.Calls.{Call, setUp}
 use Rattle.machine.specs.Steps.{step}
 use Rattle.machine.specs.Buffers.{wrongPage, Outcomes, call}
 use Rattle.runs.specs.Runs.{Renews, NoneRenews, Run}
+use Rattle.runs.proofs.Codes.{refusing}
 use Rattle.runs.proofs.Ways.{CallWay, sized, bad, steps, call-way, is-paged}
 use Rattle.runs.proofs.Kept.{step-sound, step-room}
 use Rattle.runs.proofs.Runs.{set-up-asked, made-machine}
@@ -55,8 +56,8 @@ module _ (lay : Layout) where
           ⊎ ((d : Call) × (T (not (wrongPage d)) × (Renews d (step d M .answer) → ⊥))
           × (eventOf c (o .answer) (o .page) ≡ eventOf d (step d M .answer) (step d M .page))
           × (machineOf lay (o .buffer) ≡ step d M .machine))
-      go (sized _) n = inl (refused-shows c _ _ (omega arith), refl)
-      go (bad _ _) n = inl (refused-shows c _ _ (omega arith), refl)
+      go (sized _) n = inl (refused-shows c _ _ (refusing 16 tt), refl)
+      go (bad _ _) n = inl (refused-shows c _ _ (refusing 17 tt), refl)
       go (steps w _) n =
           inr (
             c,

@@ -13,17 +13,17 @@ use Rattle.machine.specs.Effects.{Effect, applied}
 use Rattle.machine.specs.Calls.{Call, Start, read, write, asks}
 use Rattle.machine.specs.Steps.{Result, codeOf, step}
 use Rattle.runs.specs.Runs.{Renews}
+use Rattle.runs.proofs.Codes.{Refusing}
 use Rattle.runs.proofs.Ways.{StepWay, refuses, accepts, step-way}
 use Rattle.runs.proofs.Acts.{Acts, Does, renews, acts, does}
 use Rattle.order.specs.Run.{Event, gives-up, nothing}
 use Rattle.history.specs.Show.{beginning, eventOf}
 
--- 6 and more are none of the codes that show something
-not-code : (n : ℕ) (a : Answer) (x y : Event) → n ≤ 5 → 6 ≤ a .code → y ≡ nothing → (if eqb (a .code) n then x else y) ≡ nothing
-not-code n a x y l h e = if-ind (λ (e : Event). e ≡ nothing) (eqb (a .code) n) (λ z. absurd (omega (arith, eqb→eq (a .code) n z))) (λ _. e)
+-- a refusal is none of the codes that show something
+not-code : (n : ℕ) (a : Answer) (x y : Event) → n ≤ 3 → Refusing (a .code) → y ≡ nothing → (if eqb (a .code) n then x else y) ≡ nothing
+not-code n a x y l h e = if-ind (λ (e : Event). e ≡ nothing) (eqb (a .code) n) (λ z. absurd (omega (arith, h .high, eqb→eq (a .code) n z))) (λ _. e)
 
--- a refusal shows nothing
-pub refused-shows : (c : Call) (a : Answer) (p : Page) → 6 ≤ a .code → eventOf c a p ≡ nothing
+pub refused-shows : (c : Call) (a : Answer) (p : Page) → Refusing (a .code) → eventOf c a p ≡ nothing
 unfolding eventOf
 refused-shows c a p h =
     not-code _ a _ _ (omega arith) h (not-code _ a _ _ (omega arith) h (not-code _ a _ _ (omega arith) h (not-code _ a _ _ (omega arith) h refl)))
@@ -61,5 +61,5 @@ way M c = go (step-way c M)
     acted (acts _ a) n = goes a
 
     go : {r : Result} → StepWay c M r → (Renews c (r .answer) → ⊥) → Way M c (r .machine) (eventOf c (r .answer) (r .page))
-    go (refuses k) n = subst (Way M c M) (sym (refused-shows c (coded (codeOf c M)) (asks c .fill) (omega (arith, k .high)))) stays
+    go (refuses k) n = subst (Way M c M) (sym (refused-shows c (coded (codeOf c M)) (asks c .fill) k)) stays
     go (accepts h) n = acted (does c M h) n
