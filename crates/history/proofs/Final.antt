@@ -25,8 +25,8 @@ use Rattle.runs.proofs.Codes.{refusing}
 use Rattle.runs.proofs.Ways.{CallWay, sized, bad, steps, call-way, is-paged}
 use Rattle.runs.proofs.Kept.{step-sound, step-room}
 use Rattle.runs.proofs.Runs.{set-up-asked, made-machine}
-use Rattle.order.specs.Run.{_∈_, Event, nothing, reading, Op, ops, Proper, Finished, EndedBefore, last-page, OneLine, events, AllMeant}
-use Rattle.order.specs.Method.{Fresh, SeenAs}
+use Rattle.order.specs.Run.{_∈_, Event, nothing, reading, Op, ops, Proper, Finished, EndedBefore, last-page, OneLine, events}
+use Rattle.order.specs.Method.{AllMeant, Fresh, SeenAs}
 use Rattle.order.proofs.Atomic.{atomic, atomic-seen}
 use Rattle.order.proofs.Hours.{hours}
 use Rattle.history.specs.Show.{eventOf, onBuffer}

@@ -10,7 +10,7 @@ use Rattle.tables.specs.Tables.{Page, Machine}
 use Rattle.rules.specs.declared.Answer.{Answer}
 use Rattle.rules.specs.Answers.{coded}
 use Rattle.machine.specs.Effects.{Effect, applied}
-use Rattle.machine.specs.Calls.{Call, Start, read, write, asks}
+use Rattle.machine.specs.Calls.{Call, Start, aRead, aWrite, asks}
 use Rattle.machine.specs.Steps.{Result, codeOf, step}
 use Rattle.runs.specs.Runs.{Renews}
 use Rattle.runs.proofs.Codes.{Refusing}
@@ -44,8 +44,8 @@ no-giving-up c a p d =
 
     begun : (o : Option Start) → P (beginning o)
     begun none e = clash (cc)
-    begun (some (read c)) e = clash (cc)
-    begun (some (write c page)) e = clash (cc)
+    begun (some (aRead c)) e = clash (cc)
+    begun (some (aWrite c page)) e = clash (cc)
 
 -- ---- the ways
 

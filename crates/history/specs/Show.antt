@@ -1,18 +1,17 @@
 -- What a call shows its caller, by its answer; and the calls on a lent buffer, as `order` reads them.
-use mathlib.Core.Option.{Option, none, some}
-use Rattle.sets.specs.Plain.{ℕ, eqb, List, if_then_else_}
+use Rattle.sets.specs.Plain.{ℕ, eqb, List, Option, none, some, if_then_else_}
 use Rattle.tables.specs.declared.Layout.{Layout}
 use Rattle.tables.specs.Tables.{Page}
 use Rattle.rules.specs.declared.Answer.{Answer}
-use Rattle.machine.specs.Calls.{Call, Start, read, write, asks}
+use Rattle.machine.specs.Calls.{Call, Start, aRead, aWrite, asks}
 use Rattle.machine.specs.Buffers.{call}
 use Rattle.runs.specs.Runs.{Renews}
 use Rattle.order.specs.Run.{Event, read-begins, write-begins, read-ends, write-ends, write-spent, nothing, Calls}
 
 abbrev pub beginning : Option Start → Event
 beginning none = nothing
-beginning (some (read c)) = read-begins c
-beginning (some (write c page)) = write-begins c page
+beginning (some (aRead c)) = read-begins c
+beginning (some (aWrite c page)) = write-begins c page
 
 -- 0 DONE of a start, 1 READ ENDED with the page filled, 2 WRITE ENDED, 3 SPENT; a is the answer, p what the page to fill holds afterwards
 unfoldable pub eventOf : Call → Answer → Page → Event

@@ -1,6 +1,5 @@
 -- The calls, what each asks for, and the effect of each but deliver.
-use mathlib.Core.Option.{Option, none, some}
-use Rattle.sets.specs.Plain.{Bool, true, false, ℕ, eqb, List, [], if_then_else_}
+use Rattle.sets.specs.Plain.{Bool, true, false, ℕ, eqb, List, [], Option, none, some, if_then_else_}
 use Rattle.tables.specs.declared.Conf.{Conf}
 use Rattle.tables.specs.declared.Client.{Client}
 use Rattle.tables.specs.declared.Directory.{Directory}
@@ -36,12 +35,12 @@ partyOf kind =
 
 -- an operation of a client
 pub data Start : Type 0 where
-  read : ℕ → Start
-  write : ℕ → Page → Start
+  aRead : ℕ → Start
+  aWrite : ℕ → Page → Start
 
 abbrev pub starter : Start → ℕ
-starter (read c) = c
-starter (write c page) = c
+starter (aRead c) = c
+starter (aWrite c page) = c
 
 pub record Asks : Type 0 where
   pub anew : Bool  -- whether it makes the machine anew
@@ -55,8 +54,8 @@ pub record Asks : Type 0 where
 -- one row a call; `none` where the paper asks nothing of the kind
 abbrev pub asks : Call → Asks
 asks (setUp k page) = record { anew = true; page = some page; fill = []; up = none; start = none; slot = none; delivered = none }
-asks (startRead c) = record { anew = false; page = none; fill = []; up = some (AClient, c); start = some (read c); slot = none; delivered = none }
-asks (startWrite c page) = record { anew = false; page = some page; fill = []; up = some (AClient, c); start = some (write c page); slot = none; delivered = none }
+asks (startRead c) = record { anew = false; page = none; fill = []; up = some (AClient, c); start = some (aRead c); slot = none; delivered = none }
+asks (startWrite c page) = record { anew = false; page = some page; fill = []; up = some (AClient, c); start = some (aWrite c page); slot = none; delivered = none }
 asks (deliver s page) = record { anew = false; page = some page; fill = page; up = none; start = none; slot = some s; delivered = some s }
 asks (gossip from to) = record { anew = false; page = none; fill = []; up = some (AReplica, from); start = none; slot = none; delivered = none }
 asks (tidy r) = record { anew = false; page = none; fill = []; up = some (AReplica, r); start = none; slot = none; delivered = none }

@@ -8,8 +8,8 @@ use native.Mathlib.Nat.{le-trans}
 use native.Mathlib.Decide.{ℕ-discrete}
 use mathlib.Core.Bool.{not}
 use lib.Dec.{T, eqb}
-use Rattle.order.specs.Run.{_∈_, Page, Kind, reading, writing, Fate, running, ended, spent, left, Event, read-begins, write-begins, read-ends, write-ends, write-spent, gives-up, nothing, Finished, Proper, OneLine, Calls, events, AllMeant}
-use Rattle.order.specs.Method.{Stand, idle, reads, asks, writes, Method, GoesOn, Others, Follows, Above, Does, quietly, readBegins, writeBegins, chooses, readEnds, writeEnds, spends, givesUp, Fresh, NewRanks, never-gives-up, keeps-last, KeepsTo, SeenAs}
+use Rattle.order.specs.Run.{_∈_, Page, Kind, reading, writing, Fate, running, ended, spent, left, Event, read-begins, write-begins, read-ends, write-ends, write-spent, gives-up, nothing, Finished, Proper, OneLine, Calls, events}
+use Rattle.order.specs.Method.{Stand, idle, reads, asks, writes, Method, GoesOn, Others, Follows, Above, Does, quietly, readBegins, writeBegins, chooses, readEnds, writeEnds, spends, givesUp, Fresh, NewRanks, never-gives-up, keeps-last, KeepsTo, SeenAs, AllMeant}
 use Rattle.order.proofs.Lists.{none-in, all-cons}
 use Rattle.order.proofs.Book.{Ranked, Note, seen, chose, shown, top, opened, turned, closed, ranked, renew, book, Mine, Source, Unused, Guard, Keeps, renew-all, renew-moves, renew-stays}
 use Rattle.order.proofs.Held.{unlike, fate-number, read-write, Ok, Held, held-start, top-is, next}

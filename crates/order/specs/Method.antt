@@ -2,8 +2,16 @@
 -- Every write has a rank, a number above 0 by which the writes are ordered; the first page has rank 0.
 use mathlib.Core.Path.{_≡_}
 use mathlib.Core.Logic.{_⊎_}
+use mathlib.Core.List.{List, [], _∷_}
 use Prim.Native.Nat.{ℕ, _≤_, _<_}
 use Rattle.order.specs.Run.{Page, Event, Calls, read-begins, write-begins, read-ends, write-ends, write-spent, gives-up, nothing}
+
+-- ---- the calls of a run
+
+-- each call is meant, where it comes
+unfoldable pub AllMeant : {M C : Type 0} → Calls M C → M → List C → Type 0
+AllMeant A m [] = Unit {0}
+AllMeant A m (x ∷ xs) = A .Meant m x × AllMeant A (A .after m x) xs
 
 -- ---- the method
 

@@ -34,11 +34,6 @@ module _ {M C : Type 0} (A : Calls M C) where
   events m [] = []
   events m (x ∷ xs) = A .shows m x ∷ events (A .after m x) xs
 
-  -- each call is meant, where it comes
-  unfoldable pub AllMeant : M → List C → Type 0
-  AllMeant m [] = Unit {0}
-  AllMeant m (x ∷ xs) = A .Meant m x × AllMeant (A .after m x) xs
-
 -- ---- the operations of a run
 
 pub data Kind : Type 0 where

@@ -1,8 +1,7 @@
 -- "`rehearse` starts from 4,992 zero words and reads standard input. [..] Any other line, or a last one without LF, gets code 18.
 -- Each line prints line number, code, client, tag number, tag client, and the first page word if the code is 1, else 0."
-use mathlib.Core.Option.{Option, none, some}
 use Prim.Native.Nat.{min}
-use Rattle.sets.specs.Plain.{List, [], _∷_, _++_, ℕ, _+_, getD, replicate}
+use Rattle.sets.specs.Plain.{List, [], _∷_, _++_, ℕ, _+_, getD, replicate, Option, none, some}
 use Rattle.tables.specs.Layouts.{base}
 use Rattle.tables.specs.Tables.{Page}
 use Rattle.rules.specs.Answers.{coded}

@@ -22,7 +22,7 @@ pub record Untouched (c : Call) (m : List ℕ) (o : Outcomes) : Type 0 where
   pub page : o .page ≡ asks c .fill
   pub buffer : o .buffer ≡ m
 
--- the buffer is as long as it was, and so are the words after the machine
+-- the words after the machine are as they were, and the buffer is as long
 pub record Beyond (lay : Layout) (m n : List ℕ) : Type 0 where
   pub words : drop (extent lay) n ≡ drop (extent lay) m
   pub long : length n ≡ length m

@@ -1,8 +1,9 @@
--- Truth values, numbers and lists under one roof, the choice by a test, and plain functions of lists. Nothing of the paper stands here.
+-- Truth values, numbers, lists and "perhaps one" under one roof, the choice by a test, and plain functions of lists. Nothing of the paper stands here.
 pub use mathlib.Core.Bool.{Bool, true, false, not, _&&_, _||_}
 pub use mathlib.Core.Path.{_≡_}
 pub use mathlib.Core.Logic.{_⊎_}
 pub use mathlib.Core.List.{List, [], _∷_, _++_, map, List·Memᴰ}
+pub use mathlib.Core.Option.{Option, none, some}
 pub use Prim.Native.Nat.{ℕ, zero, suc, _+_, _-_, _*_, _/_, _%_, _^_, _<_}
 pub use lib.Dec.{T, leb, ltb, eqb}
 pub use lib.ListN.{length, getD, set, replicate, take, drop}
