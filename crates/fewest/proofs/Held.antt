@@ -24,7 +24,7 @@ use Rattle.machine.specs.Buffers.{wrongPage, isSetUp, Outcomes, call}
 use Rattle.machine.proofs.Quiet.{quiet-applied}
 use Rattle.runs.specs.Runs.{Renews, bufferAfter, sizedStep}
 use Rattle.runs.proofs.Ways.{StepWay, refuses, accepts, step-way}
-use Rattle.runs.proofs.Acts.{Acts, Does, renews, acts, does}
+use Rattle.runs.proofs.Acts.{Acts, Accepted, renews, acts, accepted-by}
 use Rattle.runs.proofs.Rows.{numbers-of}
 use Rattle.runs.proofs.Kept.{paged, step-sound}
 use Rattle.runs.proofs.Runs.{sized-room, call-is, made-fine}
@@ -38,22 +38,22 @@ use Rattle.history.proofs.Final.{begins}
 
 -- what an accepted call but set-up does
 pub call-acts : (q : Call) (M : Machine) → T (not (isSetUp q)) → codeOf q M ≡ 0 → Acts M q (effectOf q M)
-call-acts q M n h = go (does q M h) n
+call-acts q M n h = go (accepted-by q M h) n
   where
-    go : {q : Call} {e : Effect} → Does M q e → T (not (isSetUp q)) → Acts M q e
+    go : {q : Call} {e : Effect} → Accepted M q e → T (not (isSetUp q)) → Acts M q e
     go (renews k page _) n = absurd n
     go (acts _ a) n = a
 
 pub step-good : (q : Call) (M : Machine) → Good M → T (not (wrongPage q)) → Good (step q M .machine)
 step-good q M G w = record { sound = step-sound q M (G .sound) w; invariant = go (step-way q M) }
   where
-    by : {q : Call} {e : Effect} → Does M q e → T (not (wrongPage q)) → Invariant (applied e M)
+    by : {q : Call} {e : Effect} → Accepted M q e → T (not (wrongPage q)) → Invariant (applied e M)
     by (renews k page g) w = rw (quiet-applied M (anew k page)) (fresh (length (M .directories)) k page g (paged page w) .good .invariant)
     by (acts _ a) w = invariant-acts M (G .sound) (G .invariant) a
 
     go : {r : Result} → StepWay q M r → Invariant (r .machine)
     go (refuses _) = G .invariant
-    go (accepts h) = by (does q M h) w
+    go (accepts h) = by (accepted-by q M h) w
 
 -- with a page of 16 words
 sized-is : (q : Call) (M : Machine) → T (not (wrongPage q)) → sizedStep q M ≡ step q M

@@ -24,7 +24,7 @@ use Rattle.runs.specs.Runs.{Renews, NoneRenews, Run}
 use Rattle.runs.proofs.Codes.{refusing}
 use Rattle.runs.proofs.Ways.{CallWay, sized, bad, steps, call-way, is-paged}
 use Rattle.runs.proofs.Kept.{step-sound, step-room}
-use Rattle.runs.proofs.Runs.{set-up-asked, made-machine}
+use Rattle.runs.proofs.Runs.{set-up-passed, made-machine}
 use Rattle.order.specs.Run.{_∈_, Event, nothing, reading, Op, ops, Proper, Finished, EndedBefore, last-page, OneLine, events}
 use Rattle.order.specs.Method.{AllMeant, Fresh, SeenAs}
 use Rattle.order.proofs.Atomic.{atomic, atomic-seen}
@@ -70,7 +70,7 @@ module _ (lay : Layout) where
   -- an accepted set-up leaves a new machine
   pub begins : (m : List ℕ) (k : Conf) (p : Page) → Renews (setUp k p) (call lay (setUp k p) m .answer) → Fresh layered p (machineOf lay (call lay (setUp k p) m .buffer))
   begins m k p r =
-      let a = set-up-asked lay k p m r in
+      let a = set-up-passed lay k p m r in
       subst (Fresh layered p) (sym (made-machine lay k p m r)) (fresh (lay .directories) k p (a .numbers) (a .paged))
 
   all-meant : (cs : List Call) (m : List ℕ) → NoneRenews lay m cs → AllMeant (onBuffer lay) m cs

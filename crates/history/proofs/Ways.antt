@@ -15,7 +15,7 @@ use Rattle.machine.specs.Steps.{Result, codeOf, step}
 use Rattle.runs.specs.Runs.{Renews}
 use Rattle.runs.proofs.Codes.{Refusing}
 use Rattle.runs.proofs.Ways.{StepWay, refuses, accepts, step-way}
-use Rattle.runs.proofs.Acts.{Acts, Does, renews, acts, does}
+use Rattle.runs.proofs.Acts.{Acts, Accepted, renews, acts, accepted-by}
 use Rattle.order.specs.Run.{Event, gives-up, nothing}
 use Rattle.history.specs.Show.{beginning, eventOf}
 
@@ -56,10 +56,10 @@ pub data Way (M : Machine) (c : Call) : Machine → Event → Type 0 where
 pub way : (M : Machine) (c : Call) → (Renews c (step c M .answer) → ⊥) → Way M c (step c M .machine) (eventOf c (step c M .answer) (step c M .page))
 way M c = go (step-way c M)
   where
-    acted : {c : Call} {e : Effect} → Does M c e → (Renews c (e .answer) → ⊥) → Way M c (applied e M) (eventOf c (e .answer) (e .page))
+    acted : {c : Call} {e : Effect} → Accepted M c e → (Renews c (e .answer) → ⊥) → Way M c (applied e M) (eventOf c (e .answer) (e .page))
     acted (renews k page _) n = absurd (n (tt, refl))
     acted (acts _ a) n = goes a
 
     go : {r : Result} → StepWay c M r → (Renews c (r .answer) → ⊥) → Way M c (r .machine) (eventOf c (r .answer) (r .page))
     go (refuses k) n = subst (Way M c M) (sym (refused-shows c (coded (codeOf c M)) (asks c .fill) k)) stays
-    go (accepts h) n = acted (does c M h) n
+    go (accepts h) n = acted (accepted-by c M h) n

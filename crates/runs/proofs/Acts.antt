@@ -89,9 +89,10 @@ pub data Acts (M : Machine) : Call → Effect → Type 0 where
       → Acts M (tidy r) (done (replica r (record { down = replicaAt M r .down; entries = tidied (replicaAt M r .entries) })) noPost)
   crashes : (kind id : ℕ) (who : Party) → Among (manyOf (M .conf) who) id → Acts M (crash kind id) (done (downed M who id) noPost)
 
-pub data Does (M : Machine) : Call → Effect → Type 0 where
-  renews : (k : Conf) (page : Page) → goodNumbers (length (M .directories)) k ≡ true → Does M (setUp k page) (done (anew k page) noPost)
-  acts : {c : Call} {e : Effect} → T (not (isSetUp c)) → Acts M c e → Does M c e
+-- any call
+pub data Accepted (M : Machine) : Call → Effect → Type 0 where
+  renews : (k : Conf) (page : Page) → goodNumbers (length (M .directories)) k ≡ true → Accepted M (setUp k page) (done (anew k page) noPost)
+  acts : {c : Call} {e : Effect} → T (not (isSetUp c)) → Acts M c e → Accepted M c e
 
 -- ---- the walk
 
@@ -129,7 +130,7 @@ module _ (M : Machine) where
     delivered =
         if-ind (Acts M (deliver s page)) (isDown M (receiverOf (x .kind)) (x .receiver)) (λ _. empties (deliver s page) (s ∷ []) 4 tt refl) (takes (receiverOf (x .kind)) refl)
 
-  by-call : (c : Call) → Allowed c M → Does M c (effectOf c M)
+  by-call : (c : Call) → Allowed c M → Accepted M c (effectOf c M)
   unfolding effectOf startEffect gossipEffect tidyEffect crashEffect
   by-call (setUp k page) h =
       let n = length (M .directories) in
@@ -146,5 +147,5 @@ module _ (M : Machine) where
   by-call (crash kind id) h = acts tt (crashes kind id (partyOf kind) (party (partyOf kind) id (h .argument)))
   by-call report h = acts tt (empties report [] 0 tt refl)
 
-pub does : (c : Call) (M : Machine) → codeOf c M ≡ 0 → Does M c (effectOf c M)
-does c M h = by-call M c (allowed c M h)
+pub accepted-by : (c : Call) (M : Machine) → codeOf c M ≡ 0 → Accepted M c (effectOf c M)
+accepted-by c M h = by-call M c (allowed c M h)

@@ -1,14 +1,15 @@
 -- The listed codes: which of them a list of tests gives, and what holds of each.
-use mathlib.Core.Bool.{Bool, true, false, _&&_, _||_}
+use mathlib.Core.Bool.{Bool, true, false, not, _||_}
 use mathlib.Core.List.{List, [], _∷_, map}
 use mathlib.Core.Logic.{⊎-elim}
 use mathlib.Core.Path.{_≡_, refl, sym, subst}
 use Prim.Native.Nat.{ℕ, _≤_}
 use borrow.Author.Tests.{eq-eqb}
-use lib.Dec.{T, leb, eqb, eqb→eq, leb→le}
+use lib.Dec.{T, leb, eqb, eqb→eq, nleb→lt}
 use Rattle.sets.specs.Plain.{if_then_else_, oneOf}
-use Rattle.sets.proofs.Tests.{and-elim, or-elim}
+use Rattle.sets.proofs.Tests.{or-elim}
 use Rattle.tables.proofs.All.{All, none, cons}
+use Rattle.tables.proofs.Lists.{none-passes}
 use Rattle.machine.specs.Refusals.{firstOf, refusedCodes}
 
 -- ---- one of the numbers of a list
@@ -32,15 +33,6 @@ one-more k a (b ∷ l) h = go (eqb k a)
     go true = tt
     go false = h
 
--- a test of each number, computed
-abbrev every : (ℕ → Bool) → List ℕ → Bool
-every p [] = true
-every p (a ∷ l) = p a && every p l
-
-pub all-by : (p : ℕ → Bool) (l : List ℕ) → T (every p l) → All (λ (k : ℕ). T (p k)) l
-all-by p [] h = none
-all-by p (a ∷ l) h = let q = and-elim (p a) (every p l) h in cons (q .0) (all-by p l (q .1))
-
 -- ---- refusals
 
 -- a list of tests gives 0 or one of its codes
@@ -58,7 +50,9 @@ pub record Refusing (n : ℕ) : Type 0 where
   pub high : 16 ≤ n
 
 pub refusing : (n : ℕ) → T (oneOf n refusedCodes) → Refusing n
-refusing n h = record { listed = h; high = leb→le 16 n (one-of (λ (k : ℕ). T (leb 16 k)) n refusedCodes (all-by (leb 16) refusedCodes tt) h) }
+refusing n h =
+    let low : ℕ → Bool = λ k. leb k 15 in
+    record { listed = h; high = nleb→lt n 15 (one-of (λ (k : ℕ). T (not (low k))) n refusedCodes (none-passes low refusedCodes tt) h) }
 
 -- SIZE and BAD MACHINE stand before the codes of the list
 pub refusing-by : (l : List (ℕ × Bool)) → (16 ∷ 17 ∷ map (λ (t : ℕ × Bool). t .0) l ≡ refusedCodes) → (firstOf l ≡ 0 → ⊥) → Refusing (firstOf l)

@@ -24,7 +24,7 @@ use Rattle.machine.specs.Steps.{Result, effectOf, codeOf, step}
 use Rattle.machine.specs.Buffers.{wrongPage, isSetUp}
 use Rattle.machine.proofs.Quiet.{quiet-applied}
 use Rattle.runs.proofs.Ways.{StepWay, refuses, accepts, step-way}
-use Rattle.runs.proofs.Acts.{Among, Opens, Comes, begun, Acts, reads, writes, empties, directs, stores, hears, gossips, tidies, crashes, Does, renews, acts, does}
+use Rattle.runs.proofs.Acts.{Among, Opens, Comes, begun, Acts, reads, writes, empties, directs, stores, hears, gossips, tidies, crashes, Accepted, renews, acts, accepted-by}
 use Rattle.runs.proofs.Sound.{Sound, Fits, Keeps, applied-sound}
 use Rattle.runs.proofs.Sent.{is-between, sends-none}
 use Rattle.runs.proofs.Directories.{directory-fits, directory-after, directory-sends}
@@ -126,9 +126,9 @@ module _ {M : Machine} (z : Sound M) where
 
 -- set-up asks nothing of the machine before it
 pub accepted-sound : (c : Call) (M : Machine) → (T (not (isSetUp c)) → Sound M) → T (not (wrongPage c)) → codeOf c M ≡ 0 → Sound (applied (effectOf c M) M)
-accepted-sound c M z w h = go (does c M h) z w
+accepted-sound c M z w h = go (accepted-by c M h) z w
   where
-    go : {c : Call} {e : Effect} → Does M c e → (T (not (isSetUp c)) → Sound M) → T (not (wrongPage c)) → Sound (applied e M)
+    go : {c : Call} {e : Effect} → Accepted M c e → (T (not (isSetUp c)) → Sound M) → T (not (wrongPage c)) → Sound (applied e M)
     go (renews k page g) z w = rw (quiet-applied M (anew k page)) (new-sound k page (paged page w) (length (M .directories)) g)
     go (acts n a) z w = applied-sound (z n) (acts-keeps (z n) w a)
 

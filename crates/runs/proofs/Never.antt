@@ -37,7 +37,7 @@ use Rattle.machine.specs.Steps.{Result, step}
 use Rattle.machine.specs.Buffers.{wrongPage, call}
 use Rattle.runs.specs.Runs.{Renews, bufferAfter, NoneRenews, Run, Rises, Within}
 use Rattle.runs.proofs.Ways.{StepWay, refuses, accepts, step-way}
-use Rattle.runs.proofs.Acts.{Acts, reads, writes, empties, directs, stores, hears, gossips, tidies, crashes, Does, renews, acts, does}
+use Rattle.runs.proofs.Acts.{Acts, reads, writes, empties, directs, stores, hears, gossips, tidies, crashes, Accepted, renews, acts, accepted-by}
 use Rattle.runs.proofs.Sound.{Sound}
 use Rattle.runs.proofs.Rows.{row-ind, client-of, directory-of, stores-of, message-of}
 use Rattle.runs.proofs.Runs.{Fine, fine-call, fine-machine, fine-on, fine-after, made-machine, made-fine}
@@ -119,13 +119,13 @@ acts-higher M (crashes kind id who _) = downed-higher M who id
 step-climbs : (c : Call) (M : Machine) → (Renews c (step c M .answer) → ⊥) → Climbs M (step c M .machine)
 step-climbs c M n = go (step-way c M) n
   where
-    acted : {c : Call} {e : Effect} → Does M c e → (Renews c (e .answer) → ⊥) → Climbs M (applied e M)
+    acted : {c : Call} {e : Effect} → Accepted M c e → (Renews c (e .answer) → ⊥) → Climbs M (applied e M)
     acted (renews k page _) n = absurd (n (tt, refl))
     acted {e = e} (acts _ a) n = changed-climbs M (e .change) _ (acts-higher M a)
 
     go : {r : Result} → StepWay c M r → (Renews c (r .answer) → ⊥) → Climbs M (r .machine)
     go (refuses _) n = climbs-not M
-    go (accepts h) n = acted (does c M h) n
+    go (accepts h) n = acted (accepted-by c M h) n
 
 -- ---- nothing exceeds top
 

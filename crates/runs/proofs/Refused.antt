@@ -14,6 +14,7 @@ use Rattle.tables.specs.Tables.{Page, Machine, slotAt}
 use Rattle.tables.specs.Layouts.{extent}
 use Rattle.tables.specs.Words.{words}
 use Rattle.tables.specs.Machines.{machineOf}
+use Rattle.tables.proofs.All.{none, cons}
 use Rattle.tables.proofs.Round.{words-back}
 use Rattle.rules.specs.declared.Outcome.{Outcome}
 use Rattle.rules.specs.declared.Outcome.the-variants.{Waiting, Next, ReadEnded, WriteEnded, Spent, Stale}
@@ -25,9 +26,9 @@ use Rattle.machine.specs.Refusals.{acceptedCodes}
 use Rattle.machine.specs.Steps.{codeOf, Result, effectOf, step}
 use Rattle.machine.specs.Buffers.{wrongSize, badMachine, Outcomes, left, call}
 use Rattle.runs.specs.Runs.{Untouched}
-use Rattle.runs.proofs.Codes.{one-of, all-by, Refusing}
+use Rattle.runs.proofs.Codes.{one-of, Refusing}
 use Rattle.runs.proofs.Ways.{StepWay, refuses, accepts, step-way, CallWay, sized, bad, steps, call-way, is-long}
-use Rattle.runs.proofs.Acts.{Acts, reads, writes, empties, directs, stores, hears, gossips, tidies, crashes, Does, renews, acts, does}
+use Rattle.runs.proofs.Acts.{Acts, reads, writes, empties, directs, stores, hears, gossips, tidies, crashes, Accepted, renews, acts, accepted-by}
 
 -- ---- what an accepted call answers
 
@@ -49,19 +50,19 @@ module _ (own : ℕ) (x : Message) (page : Page) where
   outcome-page Stale n = refl
 
 -- a listed code; the page to fill is written by code 1 only
-pub record Replies (c : Call) (e : Effect) : Type 0 where
-  pub code : T (oneOf (e .answer .code) acceptedCodes)
-  pub page : (e .answer .code ≡ 1 → ⊥) → e .page ≡ asks c .fill
+record HandsBack (c : Call) (e : Effect) : Type 0 where
+  code : T (oneOf (e .answer .code) acceptedCodes)
+  page : (e .answer .code ≡ 1 → ⊥) → e .page ≡ asks c .fill
 
-does-reply : {M : Machine} {c : Call} {e : Effect} → Does M c e → Replies c e
-does-reply (renews k page _) = record { code = tt; page = λ _. refl }
-does-reply {M} (acts _ a) = go a
+hands-back : {M : Machine} {c : Call} {e : Effect} → Accepted M c e → HandsBack c e
+hands-back (renews k page _) = record { code = tt; page = λ _. refl }
+hands-back {M} (acts _ a) = go a
   where
-    go : {c : Call} {e : Effect} → Acts M c e → Replies c e
+    go : {c : Call} {e : Effect} → Acts M c e → HandsBack c e
     go (reads c _) = record { code = tt; page = λ _. refl }
     go (writes c page _) = record { code = tt; page = λ _. refl }
     go (empties c slots n q _) =
-        record { code = one-of (λ (k : ℕ). T (oneOf k acceptedCodes)) n (0 ∷ 4 ∷ []) (all-by (λ k. oneOf k acceptedCodes) (0 ∷ 4 ∷ []) tt) q; page = λ _. refl }
+        record { code = one-of (λ (k : ℕ). T (oneOf k acceptedCodes)) n (0 ∷ 4 ∷ []) (cons tt (cons tt none)) q; page = λ _. refl }
     go (directs s page _) = record { code = tt; page = λ _. refl }
     go (stores s page _ _) = record { code = tt; page = λ _. refl }
     go (hears s page {o} _ _) = record { code = outcome-code (slotAt M s .receiver) (slotAt M s) page o; page = outcome-page (slotAt M s .receiver) (slotAt M s) page o }
@@ -89,7 +90,7 @@ module _ (c : Call) (M : Machine) where
     where
       go : {r : Result} → StepWay c M r → T (oneOf (r .answer .code) acceptedCodes)
       go (refuses h) = absurd (omega arith)
-      go (accepts e) = does-reply (does c M e) .code
+      go (accepts e) = hands-back (accepted-by c M e) .code
 
 -- ---- a call on a buffer
 
@@ -100,7 +101,7 @@ call-refused lay c m = go (call-way lay c m)
     stepped : extent lay ≤ length m → {r : Result} → StepWay c (machineOf lay m) r → T (not (oneOf (r .answer .code) acceptedCodes))
         → Untouched c m (left (r .answer) (r .page) (words (r .machine) (drop (extent lay) m)))
     stepped h (refuses k) l = record { code = k .listed; page = refl; buffer = words-back lay m h }
-    stepped h (accepts e) l = absurd (T-not (oneOf (effectOf c (machineOf lay m) .answer .code) acceptedCodes) l (does-reply (does c (machineOf lay m) e) .code))
+    stepped h (accepts e) l = absurd (T-not (oneOf (effectOf c (machineOf lay m) .answer .code) acceptedCodes) l (hands-back (accepted-by c (machineOf lay m) e) .code))
 
     go : {o : Outcomes} → CallWay lay c m o → T (not (oneOf (o .answer .code) acceptedCodes)) → Untouched c m o
     go (sized _) l = record { code = tt; page = refl; buffer = refl }
@@ -118,7 +119,7 @@ call-page lay c m = go (call-way lay c m)
   where
     stepped : {r : Result} → StepWay c (machineOf lay m) r → (r .answer .code ≡ 1 → ⊥) → r .page ≡ asks c .fill
     stepped (refuses _) n = refl
-    stepped (accepts e) n = does-reply (does c (machineOf lay m) e) .page n
+    stepped (accepts e) n = hands-back (accepted-by c (machineOf lay m) e) .page n
 
     go : {o : Outcomes} → CallWay lay c m o → (o .answer .code ≡ 1 → ⊥) → o .page ≡ asks c .fill
     go (sized _) n = refl

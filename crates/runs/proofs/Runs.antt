@@ -94,20 +94,20 @@ module _ (lay : Layout) (k : Conf) (page : Page) where
     set-up-is m h =
         rw (le-ltb (length m) (extent lay) h, eq-eqb (length page) 16 p, set-up-accepted (machineOf lay m) (its-room lay m), quiet-applied (machineOf lay m) (anew k page), its-room lay m)
 
-  -- what an accepted one has been asked
-  pub record Asked (m : List ℕ) : Type 0 where
+  -- what an accepted one has passed
+  pub record Passed (m : List ℕ) : Type 0 where
     pub numbers : goodNumbers (lay .directories) k ≡ true
     pub paged : Paged page
     pub long : extent lay ≤ length m
 
   module _ (m : List ℕ) (r : Renews (setUp k page) (call lay (setUp k page) m .answer)) where
-    pub set-up-asked : Asked m
-    set-up-asked = go (call-way lay (setUp k page) m) (r .1)
+    pub set-up-passed : Passed m
+    set-up-passed = go (call-way lay (setUp k page) m) (r .1)
       where
         rows : ℕ
         rows = length (machineOf lay m .directories)
 
-        stepped : T (not (wrongSize lay (setUp k page) m)) → {x : Result} → StepWay (setUp k page) (machineOf lay m) x → x .answer .code ≡ 0 → Asked m
+        stepped : T (not (wrongSize lay (setUp k page) m)) → {x : Result} → StepWay (setUp k page) (machineOf lay m) x → x .answer .code ≡ 0 → Passed m
         stepped w (refuses h) e = absurd (omega arith)
         stepped w (accepts h) e =
             record {
@@ -117,18 +117,18 @@ module _ (lay : Layout) (k : Conf) (page : Page) where
               long = is-long lay (setUp k page) m w;
             }
 
-        go : {o : Outcomes} → CallWay lay (setUp k page) m o → o .answer .code ≡ 0 → Asked m
+        go : {o : Outcomes} → CallWay lay (setUp k page) m o → o .answer .code ≡ 0 → Passed m
         go (sized _) e = absurd (omega arith)
         go (bad _ b) e = absurd b
         go (steps w _) e = stepped w (step-way (setUp k page) (machineOf lay m)) e
 
     pub set-up-made : call lay (setUp k page) m ≡ left (coded 0) [] (words N (drop (extent lay) m))
-    set-up-made = let a = set-up-asked in set-up-is (a .numbers) (a .paged) m (a .long)
+    set-up-made = let a = set-up-passed in set-up-is (a .numbers) (a .paged) m (a .long)
 
     pub run-from : (cs : List Call) → called lay m (setUp k page ∷ cs) ≡ left (coded 0) [] (words N (drop (extent lay) m)) ∷ map (shown (drop (extent lay) m)) (ran N cs)
     unfolding called
     run-from cs =
-        let a = set-up-asked in
+        let a = set-up-passed in
         ap (λ (o : Outcomes). o ∷ called lay (o .buffer) cs) set-up-made
         ∙ ap (λ (os : List Outcomes). left (coded 0) [] (words N (drop (extent lay) m)) ∷ os)
         (run-is lay cs (new-room (lay .directories) k page) (new-sound k page (a .paged) (lay .directories) (a .numbers)) (drop (extent lay) m))
@@ -194,14 +194,14 @@ fine-after lay (c ∷ cs) m f = fine-after lay cs (call lay c m .buffer) (fine-o
 module _ (lay : Layout) (k : Conf) (page : Page) (m : List ℕ) (r : Renews (setUp k page) (call lay (setUp k page) m .answer)) where
   pub made-machine : machineOf lay (call lay (setUp k page) m .buffer) ≡ newMachine (lay .directories) k page
   made-machine =
-      let a = set-up-asked lay k page m r in
+      let a = set-up-passed lay k page m r in
       ap (λ (o : Outcomes). machineOf lay (o .buffer)) (set-up-made lay k page m r)
       ∙ machine-back lay (newMachine (lay .directories) k page) (drop (extent lay) m)
       (new-sound k page (a .paged) (lay .directories) (a .numbers) .whole) (new-room (lay .directories) k page)
 
   pub made-fine : Fine lay (call lay (setUp k page) m .buffer)
   made-fine =
-      let a = set-up-asked lay k page m r in
+      let a = set-up-passed lay k page m r in
       record {
         long = rw (later-kept lay (setUp k page) m .long) (a .long);
         sound = rw made-machine (new-sound k page (a .paged) (lay .directories) (a .numbers));
