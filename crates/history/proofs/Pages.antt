@@ -33,8 +33,8 @@ use Rattle.machine.specs.Calls.{Call, downed}
 use Rattle.runs.proofs.Acts.{Acts, reads, writes, empties, directs, stores, hears, gossips, tidies, crashes}
 use Rattle.runs.proofs.Sound.{Sound}
 use Rattle.runs.proofs.Codes.{one-of}
-use Rattle.history.proofs.Rows.{OfClient, Sent, all-slots}
 use Rattle.runs.proofs.Kept.{arrives}
+use Rattle.history.proofs.Rows.{OfClient, Sent, all-slots}
 use Rattle.history.proofs.Shape.{secured-in}
 use Rattle.history.proofs.Later.{settled}
 use Rattle.history.proofs.Keeping.{unsent}

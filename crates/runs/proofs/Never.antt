@@ -7,9 +7,9 @@ use Prim.Native.Nat.{ℕ, _≤_}
 use native.Mathlib.Omega.{arith}
 use borrow.Author.Tests.{eqb-true}
 use lib.Dec.{eqb, not-T}
+use Rattle.sets.specs.Tags.{lower}
 use Rattle.sets.proofs.Tests.{T-false, either, if-ind}
 use Rattle.sets.proofs.TagOrder.{_≼_, ≼-refl, ≼-trans, ≼-≺, ≺-irrefl, lower→≺}
-use Rattle.sets.specs.Tags.{lower}
 use Rattle.tables.specs.declared.Layout.{Layout}
 use Rattle.tables.specs.declared.Conf.{Conf}
 use Rattle.tables.specs.declared.Client.{Client}
