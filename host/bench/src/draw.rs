@@ -1,8 +1,9 @@
 //! A space-time picture: a lane for each party, a column for each accepted call.
 
 use crate::history::{History, Kind, Operation};
+use crate::names::kind_name;
 use crate::order;
-use crate::story::{ends_of, kind_name, story, Arrow, Fate, Mark, Story};
+use crate::story::{ends_of, story, Arrow, Fate, Mark, Story};
 use crate::svg::Svg;
 use copy::layout::Party;
 use copy::mail::Message;

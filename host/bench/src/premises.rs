@@ -1,7 +1,8 @@
 //! The premises under which an operation ends by the promised number of deliveries, each asked
 //! of the phase that it is in: what a phase has behind it is asked no more.
 
-use crate::open::{at_top, empty_slots, members, up, with_room, with_tag, Open};
+use crate::names::{parties, set as braces};
+use crate::open::{at_top, empty_slots, up, with_room, with_tag, Open};
 use crate::view;
 use copy::layout::*;
 use copy::{Numbers, Words};
@@ -124,18 +125,18 @@ impl fmt::Display for Premise {
             Premise::Replicas { down, of, f: bearable } => {
                 write!(f, "{down} of {of} replicas {} down and f is {bearable}", is(down))
             }
-            Premise::Set { set } => write!(f, "no replica of its set {{{}}} is up", commas(set)),
+            Premise::Set { set } => write!(f, "no replica of its set {} is up", braces(set)),
             Premise::Room { full, room, wanted } => {
                 let has = if room == 1 { "has" } else { "have" };
                 write!(
                     f,
                     "no free entry at {}: {room} of the {wanted} that it needs {has} room",
-                    named("replica", full)
+                    parties(Party::Replica, full)
                 )
             }
             Premise::Top { directories } => {
                 let has = if directories.count_ones() == 1 { "has its" } else { "have their" };
-                write!(f, "{} {has} number at top: the write may end SPENT", named("directory", directories))
+                write!(f, "{} {has} number at top: the write may end SPENT", parties(Party::Directory, directories))
             }
             Premise::TopRead => write!(f, "it has read a number at top: the write can only end SPENT"),
             Premise::Slots { empty, wanted } => {
@@ -151,19 +152,5 @@ fn is(count: u32) -> &'static str {
         "is"
     } else {
         "are"
-    }
-}
-
-fn commas(set: u32) -> String {
-    members(set).map(|id| id.to_string()).collect::<Vec<_>>().join(", ")
-}
-
-/// "replica 3", "replicas 1 and 4", "replicas 1, 2 and 4".
-fn named(party: &str, set: u32) -> String {
-    let many = if party == "directory" { "directories" } else { "replicas" };
-    let last = members(set).last().unwrap_or(0);
-    match set.count_ones() {
-        0 | 1 => format!("{party} {last}"),
-        _ => format!("{many} {} and {last}", commas(set & !bit(last))),
     }
 }

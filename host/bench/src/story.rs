@@ -148,28 +148,6 @@ impl Story {
     }
 }
 
-pub fn kind_name(kind: u32) -> &'static str {
-    const NAMES: [&str; 16] = [
-        "",
-        "rread",
-        "rwrite",
-        "wread",
-        "wwrite",
-        "rread-ok",
-        "rwrite-ok",
-        "wread-ok",
-        "wwrite-ok",
-        "read",
-        "write",
-        "secure",
-        "read-ok",
-        "write-ok",
-        "notice",
-        "gossip",
-    ];
-    NAMES.get(kind as usize).copied().unwrap_or("")
-}
-
 pub fn ends_of(message: &Message) -> ((Party, u32), (Party, u32)) {
     let (from, to) = ends(message.kind);
     ((from, message.from), (to, message.to))

@@ -1,6 +1,7 @@
 //! Why an operation is open: whether the boat's troubles hold it up, or something of ours.
 
 use crate::ending::{shortest, Ending, TRIES};
+use crate::names::doing;
 use crate::open::{answers, Open};
 use crate::premises::{failing, Premise};
 use copy::layout::CLIENTS;
@@ -204,17 +205,4 @@ fn not_found(ending: &Ending) -> String {
 /// As lines of a schedule, but for their ends.
 fn listed(list: &[u32]) -> String {
     list.iter().map(|slot| format!("D {slot}")).collect::<Vec<_>>().join(", ")
-}
-
-fn doing(phase: u32) -> &'static str {
-    const DOING: [&str; 7] = [
-        "idle",
-        "asking directories for the newest tag",
-        "telling directories the tag it read",
-        "asking replicas for the page",
-        "asking directories for the newest tag",
-        "sending the page to replicas",
-        "telling directories where the page is",
-    ];
-    DOING[phase as usize]
 }

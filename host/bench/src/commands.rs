@@ -1,0 +1,151 @@
+//! The commands: what each takes, what it says of itself, and what it does.
+
+use bench::compare::{compare_all, copy_output, Seeded};
+use bench::files::{read, write};
+use bench::{draw, external, night, order, schedule, why};
+use std::io::{self, Write};
+use std::time::{Duration, Instant};
+
+/// Why a command did not do what was asked: it was asked wrongly, or it failed.
+pub enum Trouble {
+    Misuse(String),
+    Failure(String),
+}
+
+impl From<String> for Trouble {
+    fn from(why: String) -> Trouble {
+        Trouble::Failure(why)
+    }
+}
+
+type Done = Result<(), Trouble>;
+
+pub struct Command {
+    pub name: &'static str,
+    pub arguments: &'static str,
+    pub what: &'static str,
+    pub run: fn(&[&str]) -> Done,
+}
+
+impl Command {
+    pub fn usage(&self) -> String {
+        format!("bench {} {}", self.name, self.arguments)
+    }
+}
+
+pub const COMMANDS: [Command; 7] = [
+    Command { name: "generate", arguments: "SEED LINES", what: "prints a schedule", run: generate },
+    Command { name: "night", arguments: "LINES", what: "prints the night rehearsal", run: night_of },
+    Command { name: "rehearse", arguments: "FILE", what: "prints the copy's answers to a schedule", run: rehearse },
+    Command {
+        name: "check",
+        arguments: "FILE ANSWERS",
+        what: "sets the operations of any program's answers in one line",
+        run: check,
+    },
+    Command { name: "why", arguments: "FILE", what: "says what holds up each operation still open", run: explain },
+    Command { name: "draw", arguments: "FILE OUT.svg", what: "draws a schedule", run: draw_file },
+    Command {
+        name: "soak",
+        arguments: "MINUTES",
+        what: "compares the copy and the program on ever new schedules",
+        run: soak,
+    },
+];
+
+pub fn find(name: &str) -> Option<&'static Command> {
+    COMMANDS.iter().find(|command| command.name == name)
+}
+
+/// Exactly so many arguments.
+fn exactly<'a, const N: usize>(words: &[&'a str]) -> Result<[&'a str; N], Trouble> {
+    <[&str; N]>::try_from(words).map_err(|_| Trouble::Misuse(wrong_count(words.len(), N)))
+}
+
+fn wrong_count(given: usize, wanted: usize) -> String {
+    let arguments = if wanted == 1 { "argument is" } else { "arguments are" };
+    format!("{wanted} {arguments} wanted and {given} given")
+}
+
+/// A number from 0 or 1 on, and not beyond what its command can do.
+fn number(name: &str, text: &str, least: u64, most: u64) -> Result<u64, Trouble> {
+    let value = text.parse().ok().filter(|value| (least..=most).contains(value));
+    value.ok_or_else(|| Trouble::Misuse(format!("{name} is a number from {least} to {most}, not {text}")))
+}
+
+/// So many lines still fit into memory.
+const MOST_LINES: u64 = 100_000_000;
+
+fn lines(text: &str) -> Result<usize, Trouble> {
+    number("LINES", text, 1, MOST_LINES).map(|lines| lines as usize)
+}
+
+/// A reader that went away is no failure.
+pub fn print(bytes: &[u8]) -> Result<(), String> {
+    let mut out = io::stdout().lock();
+    match out.write_all(bytes).and_then(|()| out.flush()) {
+        Err(error) if error.kind() != io::ErrorKind::BrokenPipe => Err(format!("the output failed: {error}")),
+        _ => Ok(()),
+    }
+}
+
+fn generate(words: &[&str]) -> Done {
+    let [seed, count] = exactly(words)?;
+    let (seed, count) = (number("SEED", seed, 0, u64::MAX)?, lines(count)?);
+    Ok(print(&schedule(seed, count))?)
+}
+
+fn night_of(words: &[&str]) -> Done {
+    let [count] = exactly(words)?;
+    Ok(print(&night::night(lines(count)?))?)
+}
+
+fn rehearse(words: &[&str]) -> Done {
+    let [file] = exactly(words)?;
+    Ok(print(&copy_output(&read(file)?))?)
+}
+
+/// The line of operations on what any program answered.
+fn check(words: &[&str]) -> Done {
+    let [file, answers] = exactly(words)?;
+    let count = order::check(&read(file)?, &read(answers)?)?;
+    Ok(print(format!("{count} operations in line\n").as_bytes())?)
+}
+
+/// Why each operation that is open is open; one that is ours is a failure.
+fn explain(words: &[&str]) -> Done {
+    let [file] = exactly(words)?;
+    let told = why::why(&read(file)?);
+    print(told.text.as_bytes())?;
+    Ok(told.status()?)
+}
+
+fn draw_file(words: &[&str]) -> Done {
+    let [file, out] = exactly(words)?;
+    Ok(write(out, &draw::draw(&read(file)?)?)?)
+}
+
+/// Compares batches of ever new seeds until the time is over.
+fn soak(words: &[&str]) -> Done {
+    const BATCH: u64 = 500;
+    let [minutes] = exactly(words)?;
+    let time = Duration::from_secs(60 * number("MINUTES", minutes, 1, 525_600)?);
+    let program = external::program()?;
+    let begin = Instant::now();
+    let (mut seed, mut lines, mut operations) = (0, 0, 0);
+    while begin.elapsed() < time {
+        let batch: Vec<Seeded> = (seed..seed + BATCH).map(soaked).collect();
+        let tally = compare_all(&program, &batch).map_err(|difference| difference.to_string())?;
+        seed += BATCH;
+        lines += tally.lines();
+        operations += tally.operations;
+    }
+    let last = format!("{seed} schedules, {lines} lines agree; {operations} operations in line\n");
+    Ok(print(last.as_bytes())?)
+}
+
+/// Soak seeds start far from those of the tests; lengths vary with the seed.
+fn soaked(seed: u64) -> Seeded {
+    let seed = seed + 1_000_000;
+    Seeded { seed, input: schedule(seed, 50 + (seed * 7919 % 1500) as usize) }
+}
