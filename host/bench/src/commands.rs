@@ -2,7 +2,7 @@
 
 use bench::compare::{compare_all, copy_output, Seeded};
 use bench::files::{read, write};
-use bench::{draw, external, night, order, schedule, why};
+use bench::{draw, external, night, order, schedule, tell, why};
 use std::io::{self, Write};
 use std::time::{Duration, Instant};
 
@@ -33,7 +33,7 @@ impl Command {
     }
 }
 
-pub const COMMANDS: [Command; 7] = [
+pub const COMMANDS: [Command; 8] = [
     Command { name: "generate", arguments: "SEED LINES", what: "prints a schedule", run: generate },
     Command { name: "night", arguments: "LINES", what: "prints the night rehearsal", run: night_of },
     Command { name: "rehearse", arguments: "FILE", what: "prints the copy's answers to a schedule", run: rehearse },
@@ -42,6 +42,12 @@ pub const COMMANDS: [Command; 7] = [
         arguments: "FILE ANSWERS",
         what: "sets the operations of any program's answers in one line",
         run: check,
+    },
+    Command {
+        name: "tell",
+        arguments: "FILE [LINE]",
+        what: "tells a schedule in words, or the whole machine after a line",
+        run: tell_file,
     },
     Command { name: "why", arguments: "FILE", what: "says what holds up each operation still open", run: explain },
     Command { name: "draw", arguments: "FILE OUT.svg", what: "draws a schedule", run: draw_file },
@@ -80,10 +86,14 @@ fn lines(text: &str) -> Result<usize, Trouble> {
     number("LINES", text, 1, MOST_LINES).map(|lines| lines as usize)
 }
 
-/// A reader that went away is no failure.
 pub fn print(bytes: &[u8]) -> Result<(), String> {
     let mut out = io::stdout().lock();
-    match out.write_all(bytes).and_then(|()| out.flush()) {
+    quietly(out.write_all(bytes).and_then(|()| out.flush()))
+}
+
+/// A reader that went away is no failure.
+fn quietly(result: io::Result<()>) -> Result<(), String> {
+    match result {
         Err(error) if error.kind() != io::ErrorKind::BrokenPipe => Err(format!("the output failed: {error}")),
         _ => Ok(()),
     }
@@ -118,6 +128,25 @@ fn explain(words: &[&str]) -> Done {
     let told = why::why(&read(file)?);
     print(told.text.as_bytes())?;
     Ok(told.status()?)
+}
+
+fn tell_file(words: &[&str]) -> Done {
+    match words {
+        [file] => tell_all(&read(file)?),
+        [file, line] => {
+            let line = number("LINE", line, 1, u64::MAX)?;
+            Ok(print(tell::machine_after(&read(file)?, line as usize)?.as_bytes())?)
+        }
+        _ => Err(Trouble::Misuse(format!("FILE, or FILE and LINE, are wanted and {} arguments given", words.len()))),
+    }
+}
+
+/// Line by line, so that a long schedule is told while it runs.
+fn tell_all(input: &[u8]) -> Done {
+    let mut teller = tell::Teller::new();
+    let mut out = io::BufWriter::with_capacity(1 << 16, io::stdout().lock());
+    let told = tell::raw_lines(input).try_for_each(|raw| write!(out, "{}", teller.take(raw)));
+    Ok(quietly(told.and_then(|()| out.flush()))?)
 }
 
 fn draw_file(words: &[&str]) -> Done {

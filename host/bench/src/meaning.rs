@@ -1,0 +1,165 @@
+//! What an answer means: the code by name, and why this call got it on this machine.
+
+use crate::names::{self, party_name, tag};
+use crate::open::empty_slots;
+use crate::view;
+use crate::words;
+use copy::answer::*;
+use copy::client::Client;
+use copy::layout::*;
+use copy::line::{Call, LONGEST};
+use copy::mail::Message;
+use copy::numbers::within;
+use copy::{Numbers, Shown, Words};
+
+/// "21 WORN: client 1 has fewer than three message numbers left".
+pub fn meaning(m: &Words, call: Call, shown: &Shown) -> String {
+    let code = shown.answer.code;
+    let why = match code {
+        DONE => done(m, call),
+        READ_ENDED | WRITE_ENDED | WRITE_SPENT => ended(m, shown),
+        DROPPED => delivered(m, call, |message| format!("{} is down; the message is gone", receiver(message))),
+        STALE => delivered(m, call, |message| stale(&Client::read(m, message.to), message)),
+        SIZE => "the buffer or the page has the wrong length".to_string(),
+        BAD_MACHINE => "no set-up has been accepted yet".to_string(),
+        BAD_ARGUMENT => bad_argument(&Numbers::read(m), call),
+        DOWN => format!("{} is down", asked_party(call)),
+        BUSY => format!("{} is not idle: {}", asked_party(call), doing(m, call)),
+        WORN => format!("{} has fewer than three message numbers left", asked_party(call)),
+        EMPTY => "the slot is empty".to_string(),
+        FULL => {
+            delivered(m, call, |message| format!("{} has no free entry for {}", receiver(message), tag(message.tag)))
+        }
+        NO_SLOT => no_slot(m, call),
+        _ => "no listed code".to_string(),
+    };
+    format!("{}: {why}", names::code(code))
+}
+
+/// Why a line is no call.
+pub fn malformed(line: Option<&[u8]>) -> String {
+    let why = match line {
+        None => "the last line has no end".to_string(),
+        Some([]) => "the line is empty".to_string(),
+        Some(line) if line.len() > LONGEST => format!("the line has {} bytes; {LONGEST} are the most", line.len()),
+        Some([b'S' | b'R' | b'W' | b'D' | b'G' | b'T' | b'X', ..]) => {
+            "its fields are not those of its letter".to_string()
+        }
+        Some(_) => "it begins with none of S, R, W, D, G, T, X".to_string(),
+    };
+    format!("{}: {why}", names::code(BAD_ARGUMENT))
+}
+
+fn done(m: &Words, call: Call) -> String {
+    match call {
+        Call::SetUp { numbers, word } => format!("a new machine: {}; first page {word}", words::numbers(&numbers)),
+        Call::Read { client } => format!("client {client} starts a read"),
+        Call::Write { client, word } => format!("client {client} starts to write page {word}"),
+        Call::Deliver { .. } => delivered(m, call, |message| format!("{} takes it", receiver(message))),
+        Call::Gossip { from, to } => format!("replica {from} gossips to replica {to}"),
+        Call::Tidy { replica } => format!("replica {replica} frees what is older than its newest secured page"),
+        Call::Crash { .. } => format!("{} goes down", asked_party(call)),
+    }
+}
+
+fn ended(m: &Words, shown: &Shown) -> String {
+    let Answer { code, client, tag: ended, .. } = shown.answer;
+    match code {
+        READ_ENDED => format!("the read of client {client} ends with page {}, tag {}", shown.word, tag(ended)),
+        WRITE_ENDED => format!("the write of client {client} ends with tag {}", tag(ended)),
+        _ => format!(
+            "client {client} has heard the number {}, which is top: its write is not done",
+            Numbers::read(m).top
+        ),
+    }
+}
+
+fn delivered(m: &Words, call: Call, say: impl Fn(&Message) -> String) -> String {
+    let message = match call {
+        Call::Deliver { slot } if within(slot, SLOTS as u32) => view::message(m, slot),
+        _ => None,
+    };
+    message.as_ref().map_or(String::new(), say)
+}
+
+fn receiver(message: &Message) -> String {
+    format!("{} {}", party_name(ends(message.kind).1), message.to)
+}
+
+fn stale(row: &Client, message: &Message) -> String {
+    let client = receiver(message);
+    if row.phase == IDLE {
+        format!("{client} is idle and waits for nothing")
+    } else if message.number != row.number {
+        format!("{client} is at message number {} and no longer waits for {}", row.number, message.number)
+    } else {
+        format!("{client} has that answer already, or waits for another kind")
+    }
+}
+
+/// The party that must be up, or idle, for a call.
+fn asked_party(call: Call) -> String {
+    match call {
+        Call::Read { client } | Call::Write { client, .. } => format!("client {client}"),
+        Call::Gossip { from, .. } => format!("replica {from}"),
+        Call::Tidy { replica } => format!("replica {replica}"),
+        Call::Crash { kind, id } => {
+            let party = [Party::Client, Party::Directory, Party::Replica].get(kind as usize - 1);
+            format!("{} {id}", party.map_or("party", |party| party_name(*party)))
+        }
+        Call::SetUp { .. } | Call::Deliver { .. } => "nobody".to_string(),
+    }
+}
+
+fn doing(m: &Words, call: Call) -> &'static str {
+    match call {
+        Call::Read { client } | Call::Write { client, .. } => names::doing(Client::read(m, client).phase),
+        _ => "",
+    }
+}
+
+fn bad_argument(n: &Numbers, call: Call) -> String {
+    let missing = |party, id, count| format!("there is no {} {id}: they are 1 to {count}", party_name(party));
+    match call {
+        Call::SetUp { numbers, .. } => out_of_range(&numbers).to_string(),
+        Call::Read { client } | Call::Write { client, .. } => missing(Party::Client, client, n.nc),
+        Call::Deliver { slot } => format!("there is no slot {slot}: they are 1 to {SLOTS}"),
+        Call::Gossip { from, .. } if !within(from, n.nr) => missing(Party::Replica, from, n.nr),
+        Call::Gossip { from, to } if from == to => "a replica does not gossip to itself".to_string(),
+        Call::Gossip { to, .. } => missing(Party::Replica, to, n.nr),
+        Call::Tidy { replica } => missing(Party::Replica, replica, n.nr),
+        Call::Crash { kind: 1, id } => missing(Party::Client, id, n.nc),
+        Call::Crash { kind: 2, id } => missing(Party::Directory, id, n.nd),
+        Call::Crash { kind: 3, id } => missing(Party::Replica, id, n.nr),
+        Call::Crash { kind, .. } => format!("there is no kind {kind}: 1 client, 2 directory, 3 replica"),
+    }
+}
+
+/// The first rule of the table of ranges that a set-up breaks.
+fn out_of_range(n: &Numbers) -> &'static str {
+    let rules = [
+        (within(n.nc, CLIENTS as u32), "clients are 1 to 8"),
+        (within(n.nd, DIRECTORIES as u32), "directories are 1 to 5"),
+        (within(n.nr, REPLICAS as u32), "replicas are 1 to 7"),
+        (n.f <= 3, "f is 0 to 3"),
+        (n.f > 3 || 2 * n.f < n.nr, "2f + 1 is more than the replicas"),
+        (within(n.rq, n.nd), "the read quorum is 1 to the number of directories"),
+        (within(n.wq, n.nd), "the write quorum is 1 to the number of directories"),
+        (
+            n.rq > n.nd || n.wq > n.nd || n.rq + n.wq > n.nd,
+            "read and write quorum together are not more than the directories",
+        ),
+        (n.top >= 3, "top is 3 or more"),
+    ];
+    rules.into_iter().find(|(kept, _)| !kept).map_or("", |(_, rule)| rule)
+}
+
+fn no_slot(m: &Words, call: Call) -> String {
+    // The delivered one counts as empty.
+    let empty = empty_slots(m) + u32::from(matches!(call, Call::Deliver { .. }));
+    match empty {
+        0 => "it would send a message and no slot is empty".to_string(),
+        1 => "it would send more messages than the one empty slot takes".to_string(),
+        _ => format!("it would send more messages than the {empty} empty slots take"),
+    }
+}

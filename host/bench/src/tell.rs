@@ -1,0 +1,150 @@
+//! A schedule told line by line: what was asked, what came of it, and which rows moved.
+
+use crate::meaning::{malformed, meaning};
+use crate::names::line_text;
+use crate::view;
+use crate::words::{self, Sentence};
+use copy::answer::{Answer, BAD_ARGUMENT};
+use copy::layout::*;
+use copy::line::{parse, Call};
+use copy::mail::Message;
+use copy::{Numbers, Rehearsal, Shown, Words};
+use std::fmt;
+
+/// One line of a schedule, told.
+#[derive(Clone, PartialEq, Eq, Debug)]
+pub struct Line {
+    pub number: usize,
+    pub text: String,
+    pub code: u32,
+    /// "21 WORN: client 1 has fewer than three message numbers left".
+    pub meaning: String,
+    /// The message delivered, the rows changed, the messages sent.
+    pub details: Vec<String>,
+}
+
+impl fmt::Display for Line {
+    fn fmt(&self, f: &mut fmt::Formatter<'_>) -> fmt::Result {
+        writeln!(f, "{}: {} -> {}", self.number, self.text, self.meaning)?;
+        self.details.iter().try_for_each(|detail| writeln!(f, "    {detail}"))
+    }
+}
+
+/// Runs a schedule and tells each line as it comes.
+#[derive(Default)]
+pub struct Teller {
+    machine: Rehearsal,
+    lines: usize,
+}
+
+impl Teller {
+    pub fn new() -> Teller {
+        Teller::default()
+    }
+
+    pub fn words(&self) -> &Words {
+        self.machine.words()
+    }
+
+    /// One line with its LF, if it has one.
+    pub fn take(&mut self, raw: &[u8]) -> Line {
+        self.lines += 1;
+        let line = raw.strip_suffix(b"\n");
+        let text = line_text(line.unwrap_or(raw));
+        let number = self.lines;
+        match line.and_then(parse) {
+            Some(call) => Line { number, text, ..self.run(line.unwrap_or(raw), call) },
+            None => Line { number, text, code: BAD_ARGUMENT, meaning: malformed(line), details: Vec::new() },
+        }
+    }
+
+    fn run(&mut self, line: &[u8], call: Call) -> Line {
+        let before: Box<Words> = self.words().to_vec().try_into().expect("a machine's length");
+        let shown = self.machine.step(line);
+        let Shown { answer: Answer { code, .. }, .. } = shown;
+        let details = if shown.answer.accepted() { details(&before, self.words(), call) } else { Vec::new() };
+        Line { number: 0, text: String::new(), code, meaning: meaning(&before, call, &shown), details }
+    }
+}
+
+/// The machine in words after line number `last`, under the line itself.
+pub fn machine_after(input: &[u8], last: usize) -> Result<String, String> {
+    let mut teller = Teller::new();
+    let mut told = None;
+    for raw in raw_lines(input).take(last) {
+        told = Some(teller.take(raw));
+    }
+    match told.filter(|line| line.number == last) {
+        Some(line) => Ok(format!("{line}{}", in_words(teller.words()))),
+        None => Err(format!("there is no line {last}: the schedule has {}", raw_lines(input).count())),
+    }
+}
+
+fn in_words(m: &Words) -> String {
+    let sentences = words::machine(m);
+    if sentences.is_empty() {
+        return "no set-up has been accepted yet\n".to_string();
+    }
+    sentences.iter().map(|sentence| sentence.told() + "\n").collect()
+}
+
+/// Lines with their LF, if they have one.
+pub fn raw_lines(input: &[u8]) -> impl Iterator<Item = &[u8]> {
+    input.split_inclusive(|&byte| byte == b'\n')
+}
+
+fn details(before: &Words, after: &Words, call: Call) -> Vec<String> {
+    if let Call::SetUp { .. } = call {
+        return Vec::new(); // everything is new
+    }
+    let slot = if let Call::Deliver { slot } = call { slot } else { 0 };
+    let arrived = (slot > 0).then(|| view::message(before, slot)).flatten();
+    let arrived = arrived.map(|message| format!("delivered: {}", words::sent(&message, bit(message.to))));
+    arrived.into_iter().chain(rows(before, after)).chain(sent(before, after, slot)).collect()
+}
+
+fn rows(before: &Words, after: &Words) -> Vec<String> {
+    let changed = changed(before, after);
+    if changed.is_empty() {
+        return vec!["changed: no row".to_string()];
+    }
+    changed.iter().map(|row| format!("changed: {}", row.told())).collect()
+}
+
+/// The rows of parties that are not as they were.
+fn changed(before: &Words, after: &Words) -> Vec<Sentence> {
+    let all = words::rows(&Numbers::read(after));
+    let pairs = all.map(|(party, id)| (words::row(before, party, id), words::row(after, party, id)));
+    pairs.filter(|(old, new)| old != new).map(|(_, new)| new).collect()
+}
+
+/// Messages that were not there; those that differ in the receiver alone are told together.
+fn sent(before: &Words, after: &Words, delivered: u32) -> Vec<String> {
+    let mut groups: Vec<(Message, u32, Vec<u32>)> = Vec::new();
+    for slot in view::waiting(after) {
+        let Some(message) = view::message(after, slot) else { continue };
+        if slot != delivered && view::message(before, slot) == Some(message) {
+            continue;
+        }
+        let common = Message { to: 0, ..message };
+        match groups.iter_mut().find(|(other, ..)| *other == common) {
+            Some((_, receivers, slots)) => {
+                *receivers |= bit(message.to);
+                slots.push(slot);
+            }
+            None => groups.push((common, bit(message.to), vec![slot])),
+        }
+    }
+    groups
+        .iter()
+        .map(|(message, receivers, slots)| {
+            format!("sent: {}, in {}", words::sent(message, *receivers), in_slots(slots))
+        })
+        .collect()
+}
+
+/// "slot 3", "slots 3, 4, 7".
+pub fn in_slots(slots: &[u32]) -> String {
+    let all: Vec<String> = slots.iter().map(u32::to_string).collect();
+    format!("slot{} {}", if all.len() == 1 { "" } else { "s" }, all.join(", "))
+}

@@ -1,0 +1,178 @@
+//! A machine in words: a sentence for each row, and where the newest page lies.
+
+use crate::names::{doing, parties, party_name, set, tag};
+use crate::newest;
+use crate::open::{answers, entries, Open};
+use crate::story::ends_of;
+use crate::view;
+use copy::client::Client;
+use copy::directory::Directory;
+use copy::layout::*;
+use copy::mail::Message;
+use copy::{Numbers, Tag, Words};
+
+/// What is said of a row, a slot or the whole.
+#[derive(Clone, PartialEq, Eq, Debug)]
+pub struct Sentence {
+    /// "client 1", "slot 5", "newest page".
+    pub subject: String,
+    pub text: String,
+}
+
+impl Sentence {
+    pub fn new(subject: impl Into<String>, text: impl Into<String>) -> Sentence {
+        Sentence { subject: subject.into(), text: text.into() }
+    }
+
+    pub fn told(&self) -> String {
+        format!("{}: {}", self.subject, self.text)
+    }
+}
+
+/// The whole machine, in order; before a set-up there is none.
+pub fn machine(m: &Words) -> Vec<Sentence> {
+    let n = Numbers::read(m);
+    if n.nc == 0 {
+        return Vec::new();
+    }
+    let mut all = vec![Sentence::new("machine", numbers(&n)), Sentence::new("up", who_is_up(m, &n))];
+    all.extend(rows(&n).map(|(party, id)| row(m, party, id)));
+    all.extend(mail(m));
+    all.extend(newest::sentences(m));
+    all
+}
+
+/// Every party, in order.
+pub fn rows(n: &Numbers) -> impl Iterator<Item = (Party, u32)> {
+    let group = |party, count| (1..=count).map(move |id| (party, id));
+    group(Party::Client, n.nc).chain(group(Party::Directory, n.nd)).chain(group(Party::Replica, n.nr))
+}
+
+/// What is said of one party.
+pub fn row(m: &Words, party: Party, id: u32) -> Sentence {
+    let text = match party {
+        Party::Client => client(m, id),
+        Party::Directory => directory(&Directory::read(m, id)),
+        Party::Replica => replica(m, id),
+    };
+    let down = if view::is_down(m, party, id) { "down; " } else { "" };
+    Sentence::new(format!("{} {id}", party_name(party)), format!("{down}{text}"))
+}
+
+pub fn numbers(n: &Numbers) -> String {
+    let Numbers { nc, nd, nr, f, rq, wq, top } = n;
+    let counts = [parties_of(*nc, "client", "clients"), parties_of(*nd, "directory", "directories")].join(", ");
+    let replicas = parties_of(*nr, "replica", "replicas");
+    format!("{counts}, {replicas}; f {f}, read quorum {rq}, write quorum {wq}, top {top}")
+}
+
+fn parties_of(count: u32, one: &str, many: &str) -> String {
+    format!("{count} {}", if count == 1 { one } else { many })
+}
+
+fn who_is_up(m: &Words, n: &Numbers) -> String {
+    let down = |party, count| (1..=count).filter(|&id| view::is_down(m, party, id)).map(bit).sum::<u32>();
+    let groups = [(Party::Client, n.nc), (Party::Directory, n.nd), (Party::Replica, n.nr)];
+    let gone: Vec<String> = groups
+        .into_iter()
+        .map(|(party, count)| (party, down(party, count)))
+        .filter(|(_, set)| *set != 0)
+        .map(|(party, set)| parties(party, set))
+        .collect();
+    if gone.is_empty() {
+        "everybody".to_string()
+    } else {
+        format!("everybody but {}", gone.join(", "))
+    }
+}
+
+fn client(m: &Words, id: u32) -> String {
+    match Open::of(m, id) {
+        None => format!("idle, message number {}", Client::read(m, id).number),
+        Some(open) => format!("{}; {}; {}", at_work(&open.row), waits(&open), knows(&open.row)),
+    }
+}
+
+fn at_work(row: &Client) -> String {
+    let Client { phase, number, page, .. } = row;
+    let work = if *phase <= RRR { "reads".to_string() } else { format!("writes page {}", page[0]) };
+    format!("{work}, phase {phase}, {}, message number {number}", doing(*phase))
+}
+
+fn waits(open: &Open) -> String {
+    let Open { row, numbers, .. } = open;
+    let party = if [RRR, WRW].contains(&row.phase) { Party::Replica } else { Party::Directory };
+    let asked = match row.phase {
+        RRR => row.set,
+        WRW => all(numbers.nr),
+        _ => all(numbers.nd),
+    };
+    let (wanted, missing, silent) = (answers(row.phase, numbers), open.missing(), asked & !row.answered);
+    let some = if silent.count_ones() == missing { String::new() } else { format!("{missing} of ") };
+    let waits = format!("waits for {some}{}", parties(party, silent));
+    if row.answered == 0 {
+        waits
+    } else {
+        format!("{} of {wanted} answered: {}; {waits}", wanted - missing, set(row.answered))
+    }
+}
+
+/// What its tag and set mean in its phase.
+fn knows(row: &Client) -> String {
+    let (tag, set) = (tag(row.tag), parties(Party::Replica, row.set));
+    match row.phase {
+        RDR if row.set == 0 => "has heard no tag".to_string(),
+        RDR => format!("has heard {tag} at {set}"),
+        RDW => format!("tells {tag} at {set}"),
+        RRR => format!("wants {tag} of {set}"),
+        WDR => format!("has heard {tag}"),
+        WRW => format!("its tag is {tag}"),
+        _ => format!("its tag is {tag}, at {set}"),
+    }
+}
+
+fn directory(row: &Directory) -> String {
+    format!("tag {} at {}", tag(row.tag), parties(Party::Replica, row.set))
+}
+
+fn replica(m: &Words, id: u32) -> String {
+    let kept: Vec<String> = entries(m, id).filter(|row| row[0] != FREE).map(entry).collect();
+    let free = ENTRIES - kept.len();
+    format!("{}; {free} of {ENTRIES} entries free", kept.join(", "))
+}
+
+fn entry(row: &[u32]) -> String {
+    let state = if row[0] == SECURED { "secured" } else { "held" };
+    format!("{} page {} {state}", tag(Tag::new(row[1], row[2])), row[4])
+}
+
+fn mail(m: &Words) -> Vec<Sentence> {
+    let waiting = view::waiting(m);
+    let mut all = vec![Sentence::new("mail", format!("{} of {SLOTS} slots", waiting.len()))];
+    all.extend(waiting.into_iter().filter_map(|slot| {
+        let message = view::message(m, slot)?;
+        Some(Sentence::new(format!("slot {slot}"), sent(&message, bit(message.to))))
+    }));
+    all
+}
+
+/// A message to one or more receivers.
+pub fn sent(message: &Message, receivers: u32) -> String {
+    let ((from, sender), (to, _)) = ends_of(message);
+    let kind = crate::names::kind_name(message.kind);
+    let ends = format!("{kind} from {} {sender} to {}", party_name(from), parties(to, receivers));
+    std::iter::once(ends).chain(carried(message)).collect::<Vec<_>>().join(", ")
+}
+
+/// "Carried fields", in the paper's words.
+fn carried(message: &Message) -> Vec<String> {
+    let Message { kind, number, .. } = *message;
+    let has = |kinds: &[u32], text: String| kinds.contains(&kind).then_some(text);
+    let fields = [
+        has(&[2, 4, 5, 7, 9, 10, 11, 12, 14, 15], format!("tag {}", tag(message.tag))),
+        has(&[2, 4, 5], format!("set {}", set(message.set))),
+        has(&[10, 12, 15], format!("page {}", message.page[0])),
+        (![NOTICE, GOSSIP].contains(&kind)).then(|| format!("number {number}")),
+    ];
+    fields.into_iter().flatten().collect()
+}
