@@ -1,7 +1,7 @@
 //! The commands: what each takes, what it says of itself, and what it does.
 
 use bench::compare::{compare_all, copy_output, Seeded};
-use bench::files::{read, write};
+use bench::files::{open, read, write};
 use bench::{draw, external, night, order, schedule, tell, why};
 use std::io::{self, Write};
 use std::time::{Duration, Instant};
@@ -33,10 +33,11 @@ impl Command {
     }
 }
 
-pub const COMMANDS: [Command; 8] = [
+pub const COMMANDS: [Command; 9] = [
     Command { name: "generate", arguments: "SEED LINES", what: "prints a schedule", run: generate },
     Command { name: "night", arguments: "LINES", what: "prints the night rehearsal", run: night_of },
     Command { name: "rehearse", arguments: "FILE", what: "prints the copy's answers to a schedule", run: rehearse },
+    Command { name: "run", arguments: "FILE", what: "prints the proved program's answers to it", run: run_proved },
     Command {
         name: "check",
         arguments: "FILE ANSWERS",
@@ -113,6 +114,12 @@ fn night_of(words: &[&str]) -> Done {
 fn rehearse(words: &[&str]) -> Done {
     let [file] = exactly(words)?;
     Ok(print(&copy_output(&read(file)?))?)
+}
+
+/// As `rehearse < FILE`, with a status.
+fn run_proved(words: &[&str]) -> Done {
+    let [file] = exactly(words)?;
+    Ok(external::pass(&external::program()?, open(file)?)?)
 }
 
 /// The line of operations on what any program answered.

@@ -1,6 +1,8 @@
 //! Running the program under comparison.
 
+use std::fs::File;
 use std::io::{self, Read, Write};
+use std::os::unix::process::ExitStatusExt;
 use std::path::{Path, PathBuf};
 use std::process::{Command, Stdio};
 
@@ -28,4 +30,17 @@ pub fn run(program: &Path, input: &[u8]) -> io::Result<Vec<u8>> {
     });
     child.wait()?;
     read.map(|_| output)
+}
+
+/// Runs the program on a file, its answers going where ours go. Its language has no status for a
+/// program to end with, so what it says on standard error is its failure.
+pub fn pass(program: &Path, schedule: File) -> Result<(), String> {
+    const READER_GONE: i32 = 13; // SIGPIPE
+    let run = Command::new(program).stdin(schedule).stdout(Stdio::inherit()).stderr(Stdio::piped()).output();
+    let ended = run.map_err(|error| format!("{} cannot be run: {error}", program.display()))?;
+    match String::from_utf8_lossy(&ended.stderr).trim_end() {
+        "" if ended.status.success() || ended.status.signal() == Some(READER_GONE) => Ok(()),
+        "" => Err(format!("{}: {}", program.display(), ended.status)),
+        said => Err(said.to_string()),
+    }
 }

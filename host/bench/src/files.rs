@@ -1,25 +1,31 @@
 //! Files, with a sentence for each way to fail.
 
-use std::io::ErrorKind;
+use std::fs::File;
+use std::io::{self, ErrorKind, Read};
 use std::path::Path;
 
 /// All of a file that must have something in it.
 pub fn read(file: &str) -> Result<Vec<u8>, String> {
+    let mut bytes = Vec::new();
+    open(file)?.read_to_end(&mut bytes).map_err(|error| unreadable(file, &error))?;
+    if bytes.is_empty() {
+        return Err(format!("{file} is empty"));
+    }
+    Ok(bytes)
+}
+
+pub fn open(file: &str) -> Result<File, String> {
     if Path::new(file).is_dir() {
         return Err(format!("{file} is a directory; a file is wanted"));
     }
-    match std::fs::read(file) {
-        Ok(bytes) if bytes.is_empty() => Err(format!("{file} is empty")),
-        Ok(bytes) => Ok(bytes),
-        Err(error) => Err(sentence(file, error.kind()).unwrap_or(format!("{file} cannot be read: {error}"))),
-    }
+    File::open(file).map_err(|error| unreadable(file, &error))
 }
 
-fn sentence(file: &str, kind: ErrorKind) -> Option<String> {
-    match kind {
-        ErrorKind::NotFound => Some(format!("there is no file {file}")),
-        ErrorKind::PermissionDenied => Some(format!("{file} may not be read")),
-        _ => None,
+fn unreadable(file: &str, error: &io::Error) -> String {
+    match error.kind() {
+        ErrorKind::NotFound => format!("there is no file {file}"),
+        ErrorKind::PermissionDenied => format!("{file} may not be read"),
+        _ => format!("{file} cannot be read: {error}"),
     }
 }
 

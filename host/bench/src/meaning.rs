@@ -93,7 +93,7 @@ fn stale(row: &Client, message: &Message) -> String {
     } else if message.number != row.number {
         format!("{client} is at message number {} and no longer waits for {}", row.number, message.number)
     } else {
-        format!("{client} has that answer already, or waits for another kind")
+        format!("{client} has the answer of {} {} already", party_name(ends(message.kind).0), message.from)
     }
 }
 
@@ -155,11 +155,10 @@ fn out_of_range(n: &Numbers) -> &'static str {
 }
 
 fn no_slot(m: &Words, call: Call) -> String {
-    // The delivered one counts as empty.
-    let empty = empty_slots(m) + u32::from(matches!(call, Call::Deliver { .. }));
-    match empty {
-        0 => "it would send a message and no slot is empty".to_string(),
-        1 => "it would send more messages than the one empty slot takes".to_string(),
-        _ => format!("it would send more messages than the {empty} empty slots take"),
-    }
+    let (freed, counted) = match call {
+        Call::Deliver { .. } => (1, ", its own counted"),
+        _ => (0, ""),
+    };
+    let empty = empty_slots(m) + freed;
+    format!("it would send more messages than there are empty slots: {empty}{counted}")
 }

@@ -8,6 +8,7 @@ use copy::answer::{Answer, BAD_ARGUMENT};
 use copy::layout::*;
 use copy::line::{parse, Call};
 use copy::mail::Message;
+use copy::numbers::within;
 use copy::{Numbers, Rehearsal, Shown, Words};
 use std::fmt;
 
@@ -58,24 +59,34 @@ impl Teller {
         }
     }
 
+    /// Runs one line without telling it.
+    pub fn skip(&mut self, raw: &[u8]) {
+        self.lines += 1;
+        if let Some(line) = raw.strip_suffix(b"\n") {
+            self.machine.step(line);
+        }
+    }
+
     fn run(&mut self, line: &[u8], call: Call) -> Line {
         let before: Box<Words> = self.words().to_vec().try_into().expect("a machine's length");
         let shown = self.machine.step(line);
         let Shown { answer: Answer { code, .. }, .. } = shown;
-        let details = if shown.answer.accepted() { details(&before, self.words(), call) } else { Vec::new() };
+        let details = if shown.answer.accepted() {
+            details(&before, self.words(), call)
+        } else {
+            arrived(&before, call).map(|message| format!("not delivered: {message}")).into_iter().collect()
+        };
         Line { number: 0, text: String::new(), code, meaning: meaning(&before, call, &shown), details }
     }
 }
 
-/// The machine in words after line number `last`, under the line itself.
+/// The machine in words after line number `last`, counted from 1, under the line itself.
 pub fn machine_after(input: &[u8], last: usize) -> Result<String, String> {
     let mut teller = Teller::new();
-    let mut told = None;
-    for raw in raw_lines(input).take(last) {
-        told = Some(teller.take(raw));
-    }
-    match told.filter(|line| line.number == last) {
-        Some(line) => Ok(format!("{line}{}", in_words(teller.words()))),
+    let mut lines = raw_lines(input);
+    lines.by_ref().take(last - 1).for_each(|raw| teller.skip(raw));
+    match lines.next() {
+        Some(raw) => Ok(format!("{}{}", teller.take(raw), in_words(teller.words()))),
         None => Err(format!("there is no line {last}: the schedule has {}", raw_lines(input).count())),
     }
 }
@@ -98,9 +109,17 @@ fn details(before: &Words, after: &Words, call: Call) -> Vec<String> {
         return Vec::new(); // everything is new
     }
     let slot = if let Call::Deliver { slot } = call { slot } else { 0 };
-    let arrived = (slot > 0).then(|| view::message(before, slot)).flatten();
-    let arrived = arrived.map(|message| format!("delivered: {}", words::sent(&message, bit(message.to))));
+    let arrived = arrived(before, call).map(|message| format!("delivered: {message}"));
     arrived.into_iter().chain(rows(before, after)).chain(sent(before, after, slot)).collect()
+}
+
+/// The message that a delivery is about.
+fn arrived(before: &Words, call: Call) -> Option<String> {
+    let message = match call {
+        Call::Deliver { slot } if within(slot, SLOTS as u32) => view::message(before, slot)?,
+        _ => return None,
+    };
+    Some(words::sent(&message, bit(message.to)))
 }
 
 fn rows(before: &Words, after: &Words) -> Vec<String> {
@@ -114,8 +133,19 @@ fn rows(before: &Words, after: &Words) -> Vec<String> {
 /// The rows of parties that are not as they were.
 fn changed(before: &Words, after: &Words) -> Vec<Sentence> {
     let all = words::rows(&Numbers::read(after));
-    let pairs = all.map(|(party, id)| (words::row(before, party, id), words::row(after, party, id)));
-    pairs.filter(|(old, new)| old != new).map(|(_, new)| new).collect()
+    all.filter(|&(party, id)| words_of(before, party, id) != words_of(after, party, id))
+        .map(|(party, id)| words::row(after, party, id))
+        .collect()
+}
+
+/// A party's flag and its row or entries.
+fn words_of(m: &Words, party: Party, id: u32) -> (u32, &[u32]) {
+    let (at, length) = match party {
+        Party::Client => (client_at(id), CLIENT_ROW),
+        Party::Directory => (directory_at(id), DIRECTORY_ROW),
+        Party::Replica => (entries_at(id), ENTRIES * ENTRY_ROW),
+    };
+    (m[down_at(party, id)], &m[at..at + length])
 }
 
 /// Messages that were not there; those that differ in the receiver alone are told together.
