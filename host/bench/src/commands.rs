@@ -18,22 +18,22 @@ impl From<String> for Trouble {
     }
 }
 
-type Done = Result<(), Trouble>;
+pub type Done = Result<(), Trouble>;
 
 pub struct Command {
-    pub name: &'static str,
-    pub arguments: &'static str,
-    pub what: &'static str,
+    name: &'static str,
+    arguments: &'static str,
+    what: &'static str,
     pub run: fn(&[&str]) -> Done,
 }
 
 impl Command {
-    pub fn usage(&self) -> String {
+    fn usage(&self) -> String {
         format!("bench {} {}", self.name, self.arguments)
     }
 }
 
-pub const COMMANDS: [Command; 9] = [
+const COMMANDS: [Command; 10] = [
     Command { name: "generate", arguments: "SEED LINES", what: "prints a schedule", run: generate },
     Command { name: "night", arguments: "LINES", what: "prints the night rehearsal", run: night_of },
     Command { name: "rehearse", arguments: "FILE", what: "prints the copy's answers to a schedule", run: rehearse },
@@ -58,10 +58,31 @@ pub const COMMANDS: [Command; 9] = [
         what: "compares the copy and the program on ever new schedules",
         run: soak,
     },
+    Command { name: "help", arguments: "[COMMAND]", what: "prints these lines, or one of them", run: help },
 ];
 
 pub fn find(name: &str) -> Option<&'static Command> {
     COMMANDS.iter().find(|command| command.name == name)
+}
+
+pub fn lines_of_all() -> String {
+    let widest = COMMANDS.iter().map(|command| command.usage().len()).max().unwrap_or(0);
+    COMMANDS.iter().map(|command| format!("{:widest$}  {}\n", command.usage(), command.what)).collect()
+}
+
+pub fn line_of(command: &Command) -> String {
+    format!("{}  {}\n", command.usage(), command.what)
+}
+
+pub fn help(words: &[&str]) -> Done {
+    match words {
+        [] => Ok(print(lines_of_all().as_bytes())?),
+        [name] => {
+            let command = find(name).ok_or_else(|| Trouble::Misuse(format!("there is no command {name}")))?;
+            Ok(print(line_of(command).as_bytes())?)
+        }
+        _ => Err(Trouble::Misuse(format!("COMMAND or nothing is wanted and {} arguments given", words.len()))),
+    }
 }
 
 /// Exactly so many arguments.
@@ -87,7 +108,7 @@ fn lines(text: &str) -> Result<usize, Trouble> {
     number("LINES", text, 1, MOST_LINES).map(|lines| lines as usize)
 }
 
-pub fn print(bytes: &[u8]) -> Result<(), String> {
+fn print(bytes: &[u8]) -> Result<(), String> {
     let mut out = io::stdout().lock();
     quietly(out.write_all(bytes).and_then(|()| out.flush()))
 }

@@ -3,7 +3,7 @@
 
 mod commands;
 
-use commands::{Command, Trouble, COMMANDS};
+use commands::{find, help, line_of, lines_of_all, Done, Trouble};
 use std::process::ExitCode;
 
 fn main() -> ExitCode {
@@ -11,51 +11,26 @@ fn main() -> ExitCode {
         std::env::args_os().skip(1).map(|argument| argument.to_string_lossy().into_owned()).collect();
     let words: Vec<&str> = arguments.iter().map(String::as_str).collect();
     match words.as_slice() {
-        [] | ["help" | "--help" | "-h"] => ended(commands::print(help().as_bytes())),
-        ["help", name] | [name, "help" | "--help" | "-h"] => about(name),
-        [name, rest @ ..] => match commands::find(name) {
-            Some(command) => outcome(command, (command.run)(rest)),
-            None => misused(&format!("there is no command {name}"), &help()),
+        [] | ["--help" | "-h"] => outcome(help(&[]), &lines_of_all()),
+        [name, "--help" | "-h"] => outcome(help(&[name]), &lines_of_all()),
+        [name, rest @ ..] => match find(name) {
+            Some(command) => outcome((command.run)(rest), &line_of(command)),
+            None => outcome(Err(Trouble::Misuse(format!("there is no command {name}"))), &lines_of_all()),
         },
     }
 }
 
-/// A line for each command.
-fn help() -> String {
-    let widest = COMMANDS.iter().map(|command| command.usage().len()).max().unwrap_or(0);
-    COMMANDS.iter().map(|command| format!("{:widest$}  {}\n", command.usage(), command.what)).collect()
-}
-
-fn about(name: &str) -> ExitCode {
-    match commands::find(name) {
-        Some(command) => ended(commands::print(line_of(command).as_bytes())),
-        None => misused(&format!("there is no command {name}"), &help()),
-    }
-}
-
-fn line_of(command: &Command) -> String {
-    format!("{}  {}\n", command.usage(), command.what)
-}
-
-fn outcome(command: &Command, result: Result<(), Trouble>) -> ExitCode {
-    match result {
-        Err(Trouble::Misuse(why)) => misused(&why, &line_of(command)),
-        Err(Trouble::Failure(why)) => ended(Err(why)),
-        Ok(()) => ExitCode::SUCCESS,
-    }
-}
-
-fn misused(why: &str, usage: &str) -> ExitCode {
-    eprint!("bench: {why}\n{usage}");
-    ExitCode::from(2)
-}
-
-fn ended(result: Result<(), String>) -> ExitCode {
+/// A failure has status 1; a wrong use has 2, and is told how to use it.
+fn outcome(result: Done, usage: &str) -> ExitCode {
     match result {
         Ok(()) => ExitCode::SUCCESS,
-        Err(why) => {
+        Err(Trouble::Failure(why)) => {
             eprintln!("bench: {why}");
             ExitCode::FAILURE
+        }
+        Err(Trouble::Misuse(why)) => {
+            eprint!("bench: {why}\n{usage}");
+            ExitCode::from(2)
         }
     }
 }

@@ -97,7 +97,7 @@ impl Copies {
         match self.writer {
             _ if self.tag == Tag::FIRST => "the first page".to_string(),
             Some(id) if view::is_down(m, Party::Client, id) => {
-                format!("whose write by client {id} cannot end: it is down")
+                format!("of a write that client {id} left undone")
             }
             Some(id) => format!("being written by client {id}"),
             None => format!("written by client {}", self.tag.client),

@@ -4,12 +4,12 @@ use crate::meaning::{malformed, meaning};
 use crate::names::line_text;
 use crate::view;
 use crate::words::{self, Sentence};
-use copy::answer::{Answer, BAD_ARGUMENT};
+use copy::answer::BAD_ARGUMENT;
 use copy::layout::*;
 use copy::line::{parse, Call};
 use copy::mail::Message;
 use copy::numbers::within;
-use copy::{Numbers, Rehearsal, Shown, Words};
+use copy::{Numbers, Rehearsal, Words};
 use std::fmt;
 
 /// One line of a schedule, told.
@@ -51,12 +51,11 @@ impl Teller {
     pub fn take(&mut self, raw: &[u8]) -> Line {
         self.lines += 1;
         let line = raw.strip_suffix(b"\n");
-        let text = line_text(line.unwrap_or(raw));
-        let number = self.lines;
-        match line.and_then(parse) {
-            Some(call) => Line { number, text, ..self.run(line.unwrap_or(raw), call) },
-            None => Line { number, text, code: BAD_ARGUMENT, meaning: malformed(line), details: Vec::new() },
-        }
+        let (code, meaning, details) = match line.and_then(|line| Some((line, parse(line)?))) {
+            Some((line, call)) => self.run(line, call),
+            None => (BAD_ARGUMENT, malformed(line), Vec::new()),
+        };
+        Line { number: self.lines, text: line_text(line.unwrap_or(raw)), code, meaning, details }
     }
 
     /// Runs one line without telling it.
@@ -67,16 +66,15 @@ impl Teller {
         }
     }
 
-    fn run(&mut self, line: &[u8], call: Call) -> Line {
+    fn run(&mut self, line: &[u8], call: Call) -> (u32, String, Vec<String>) {
         let before: Box<Words> = self.words().to_vec().try_into().expect("a machine's length");
         let shown = self.machine.step(line);
-        let Shown { answer: Answer { code, .. }, .. } = shown;
         let details = if shown.answer.accepted() {
             details(&before, self.words(), call)
         } else {
             arrived(&before, call).map(|message| format!("not delivered: {message}")).into_iter().collect()
         };
-        Line { number: 0, text: String::new(), code, meaning: meaning(&before, call, &shown), details }
+        (shown.answer.code, meaning(&before, call, &shown), details)
     }
 }
 
@@ -84,7 +82,8 @@ impl Teller {
 pub fn machine_after(input: &[u8], last: usize) -> Result<String, String> {
     let mut teller = Teller::new();
     let mut lines = raw_lines(input);
-    lines.by_ref().take(last - 1).for_each(|raw| teller.skip(raw));
+    let before = last.checked_sub(1).ok_or("lines count from 1")?;
+    lines.by_ref().take(before).for_each(|raw| teller.skip(raw));
     match lines.next() {
         Some(raw) => Ok(format!("{}{}", teller.take(raw), in_words(teller.words()))),
         None => Err(format!("there is no line {last}: the schedule has {}", raw_lines(input).count())),
