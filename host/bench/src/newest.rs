@@ -1,6 +1,6 @@
 //! Which copy of the page is the newest, and where it lies.
 
-use crate::names::{parties, tag};
+use crate::names::{commas, parties, tag};
 use crate::open::{entries, members};
 use crate::tell::in_slots;
 use crate::view;
@@ -32,10 +32,11 @@ enum Place {
 
 /// The newest page of all; where its write is still under way, also the newest of the others.
 pub fn sentences(m: &Words) -> Vec<Sentence> {
-    let Some(newest) = newest(m, &[]) else { return Vec::new() };
     let under_way: Vec<Tag> = writers(m).map(|(_, row)| row.tag).collect();
-    let settled = if under_way.contains(&newest.tag) { self::newest(m, &under_way) } else { None };
-    let all = [("newest page", Some(newest)), ("newest page of no write under way", settled)];
+    let newest_of_all = newest(m, &[]);
+    let of_the_others =
+        newest_of_all.as_ref().filter(|one| under_way.contains(&one.tag)).and_then(|_| newest(m, &under_way));
+    let all = [("newest page", newest_of_all), ("newest page but for writes under way", of_the_others)];
     all.into_iter().filter_map(|(subject, copies)| Some(Sentence::new(subject, copies?.told(m)))).collect()
 }
 
@@ -85,6 +86,7 @@ impl Copies {
             at("secured at", self.secured, m),
             at("held at", self.held, m),
             self.on_its_way(),
+            (self.secured | self.held == 0 && self.slots.is_empty()).then(|| "at its client alone".to_string()),
             Some(format!("named by {}", parties(Party::Directory, self.directories))),
         ]
         .into_iter()
@@ -117,6 +119,6 @@ fn at(how: &str, set: u32, m: &Words) -> Option<String> {
         (0, _) => None,
         (_, 0) => Some(format!("{how} {replicas}")),
         _ if down == set => Some(format!("{how} {replicas} (down)")),
-        _ => Some(format!("{how} {replicas} ({} down)", crate::names::commas(down))),
+        _ => Some(format!("{how} {replicas} ({} down)", commas(down))),
     }
 }

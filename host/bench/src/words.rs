@@ -1,8 +1,8 @@
 //! A machine in words: a sentence for each row, and where the newest page lies.
 
-use crate::names::{doing, parties, party_name, set, tag};
+use crate::names::{doing, kind_name, parties, party_name, set, tag};
 use crate::newest;
-use crate::open::{answers, entries, Open};
+use crate::open::{answers, entries, up, Open};
 use crate::story::ends_of;
 use crate::view;
 use copy::client::Client;
@@ -71,18 +71,13 @@ fn parties_of(count: u32, one: &str, many: &str) -> String {
 }
 
 fn who_is_up(m: &Words, n: &Numbers) -> String {
-    let down = |party, count| (1..=count).filter(|&id| view::is_down(m, party, id)).map(bit).sum::<u32>();
     let groups = [(Party::Client, n.nc), (Party::Directory, n.nd), (Party::Replica, n.nr)];
-    let gone: Vec<String> = groups
-        .into_iter()
-        .map(|(party, count)| (party, down(party, count)))
-        .filter(|(_, set)| *set != 0)
-        .map(|(party, set)| parties(party, set))
-        .collect();
-    if gone.is_empty() {
-        "everybody".to_string()
-    } else {
-        format!("everybody but {}", gone.join(", "))
+    let down = groups.map(|(party, count)| (party, all(count) & !up(m, party, count)));
+    let gone: Vec<String> =
+        down.into_iter().filter(|(_, set)| *set != 0).map(|(party, set)| parties(party, set)).collect();
+    match gone.is_empty() {
+        true => "everybody".to_string(),
+        false => format!("everybody but {}", gone.join(", ")),
     }
 }
 
@@ -159,7 +154,7 @@ fn mail(m: &Words) -> Vec<Sentence> {
 /// A message to one or more receivers.
 pub fn sent(message: &Message, receivers: u32) -> String {
     let ((from, sender), (to, _)) = ends_of(message);
-    let kind = crate::names::kind_name(message.kind);
+    let kind = kind_name(message.kind);
     let ends = format!("{kind} from {} {sender} to {}", party_name(from), parties(to, receivers));
     std::iter::once(ends).chain(carried(message)).collect::<Vec<_>>().join(", ")
 }

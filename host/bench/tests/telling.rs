@@ -187,7 +187,7 @@ slot 2: wread from client 1 to directory 2, number 1
 slot 3: write from client 1 to replica 2, tag (1,1), page 9, number 2
 slot 4: write from client 1 to replica 3, tag (1,1), page 9, number 2
 newest page: 9, tag (1,1), being written by client 1: held at replica 1; on its way in slots 3, 4; named by no directory
-newest page of no write under way: 7, tag (0,0), the first page: secured at replicas 1, 2 and 3 (2 down); named by directories 1 and 2
+newest page but for writes under way: 7, tag (0,0), the first page: secured at replicas 1, 2 and 3 (2 down); named by directories 1 and 2
 ";
     assert_eq!(text, expected);
     assert!(machine_after(input, 7).is_err_and(|why| why == "there is no line 7: the schedule has 6"));
@@ -202,6 +202,11 @@ fn a_write_whose_client_is_down() {
     let newest =
         "newest page: 9, tag (1,1), of a write that client 1 left undone: on its way in slot 1; named by no directory";
     assert!(text.contains(newest), "{text}");
+    let dropped = machine_after(b"S 1 1 1 0 1 1 9 7\nW 1 9\nD 1\nD 1\nX 3 1\nD 1\n", 6).expect("a machine");
+    assert!(
+        dropped.contains("9, tag (1,1), being written by client 1: at its client alone; named by no directory"),
+        "{dropped}"
+    );
 }
 
 /// The tag of the newest page that is anywhere.
