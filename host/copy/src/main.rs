@@ -3,12 +3,27 @@
 
 use copy::Rehearsal;
 use std::io::{self, ErrorKind, Read, Write};
+use std::process::ExitCode;
 
 const CHUNK: usize = 1 << 16;
 
-fn main() {
-    // A reader that went away is no error of the schedule, so the end is quiet.
-    let _ = rehearse(&mut io::stdin().lock(), &mut io::stdout().lock());
+fn main() -> ExitCode {
+    if std::env::args_os().len() > 1 {
+        return failed(2, "usage: copy < SCHEDULE > ANSWERS");
+    }
+    match rehearse(&mut io::stdin().lock(), &mut io::stdout().lock()) {
+        // A reader that went away is no error of the schedule, so the end is quiet.
+        Err(error) if error.kind() != ErrorKind::BrokenPipe => {
+            failed(1, &format!("copy: the output could not be written: {error}"))
+        }
+        _ => ExitCode::SUCCESS,
+    }
+}
+
+fn failed(status: u8, why: &str) -> ExitCode {
+    // Standard error may be on the same full disk: the status tells all the same, where `eprintln` would panic.
+    let _ = writeln!(io::stderr(), "{why}");
+    ExitCode::from(status)
 }
 
 fn rehearse(input: &mut impl Read, output: &mut impl Write) -> io::Result<()> {
