@@ -8,6 +8,7 @@ ghost use Rattle.schedule.specs.Inner.{Printed};
 ghost use Rattle.rehearse.specs.Rehearsal.{pageOf, following};
 ghost use Rattle.rehearse.specs.Pieces.{start};
 ghost use Rattle.rehearse.specs.Turns.{Buffers, Responded, Answered, Turned, Consumed, Drained, Fresh, Ended, Rehearsed};
+use libc::STDERR_FILENO;
 use rules::Answer;
 use schedule::Command;
 use schedule::input;
@@ -226,10 +227,22 @@ fn run(m: &mut [u32], line: &mut [u8], out: &mut [u8], chunk: &mut [u8]) -> bool
     false
 }
 
-fn main() {
+// The whole schedule, from zero words; where the output fails, standard error has a sentence and the system's reason.
+fn rehearse() {
     let mut m = [0u32; 4992];
     let mut line = [0u8; 80];
     let mut out = [0u8; 65536];
     let mut chunk = [0u8; 65536];
-    run(&mut m, &mut line, &mut out, &mut chunk);
+    if !run(&mut m, &mut line, &mut out, &mut chunk) {
+        os::fail(b"rehearse: the output could not be written");
+    }
+}
+
+// A program can set no exit status, so what went wrong is said on standard error alone.
+fn main() {
+    if os::arg_count() > 1 {
+        io::write_all(STDERR_FILENO, b"usage: rehearse < SCHEDULE > ANSWERS\n");
+        return;
+    }
+    rehearse();
 }
