@@ -4,6 +4,7 @@
 mod commands;
 
 use commands::{find, help, line_of, lines_of_all, Done, Trouble};
+use std::io::{self, Write};
 use std::process::ExitCode;
 
 fn main() -> ExitCode {
@@ -25,12 +26,17 @@ fn outcome(result: Done, usage: &str) -> ExitCode {
     match result {
         Ok(()) => ExitCode::SUCCESS,
         Err(Trouble::Failure(why)) => {
-            eprintln!("bench: {why}");
+            say(&format!("{why}\n"));
             ExitCode::FAILURE
         }
         Err(Trouble::Misuse(why)) => {
-            eprint!("bench: {why}\n{usage}");
+            say(&format!("{why}\n{usage}"));
             ExitCode::from(2)
         }
     }
+}
+
+/// Where standard error fails too, the status is left to say it.
+fn say(text: &str) {
+    let _ = write!(io::stderr(), "bench: {text}");
 }
