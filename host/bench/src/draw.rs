@@ -1,255 +1,204 @@
-//! A space-time picture: a lane for each party, a column for each accepted call.
+//! A space-time picture: a lane for each party, a column for each accepted call, cut into
+//! rows that fit a page; under it the line of operations and the refused lines.
 
-use crate::history::{History, Kind, Operation};
-use crate::names::kind_name;
-use crate::order;
-use crate::story::{ends_of, story, Arrow, Fate, Mark, Story};
+use crate::history::{Kind, Operation};
+use crate::names::party_name;
+use crate::rows::{fitting, moment, Rows, PER_ROW, WIDTH};
+use crate::story::{story, Mark, Story};
 use crate::svg::Svg;
+use crate::underway::Fate;
+use crate::words;
 use copy::layout::Party;
-use copy::mail::Message;
+use copy::Numbers;
 
-const LEFT: f64 = 96.0;
-const RIGHT: f64 = 40.0;
-const TOP: f64 = 96.0;
-const COLUMN: f64 = 30.0;
-const LANE: f64 = 46.0;
-const GROUP_GAP: f64 = 22.0;
+const LEGEND: f64 = 34.0;
 const BAR: f64 = 20.0;
-const BOX: (f64, f64) = (104.0, 40.0);
-const NARROWEST: f64 = 900.0;
+/// A head's height for each of its characters.
+const STEEP: f64 = 6.0;
 
-const WRITE_FILL: &str = r##"fill="#cfe0f7" stroke="#3a6cb0""##;
-const READ_FILL: &str = r##"fill="#d3efd2" stroke="#3b8a3f""##;
+pub const WRITE_FILL: &str = r##"fill="#cfe0f7" stroke="#3a6cb0""##;
+pub const READ_FILL: &str = r##"fill="#d3efd2" stroke="#3b8a3f""##;
 const OPEN_ENDED: &str = r#"stroke-dasharray="4 3" fill-opacity="0.5""#;
-const PLAIN_TEXT: &str = r##"fill="#222""##;
-const CENTRE_TEXT: &str = r##"fill="#222" text-anchor="middle""##;
-const RED: &str = r##"stroke="#c62828" stroke-width="2.5""##;
+pub const PLAIN_TEXT: &str = r##"fill="#222""##;
+pub const RED: &str = r##"stroke="#c62828" stroke-width="2.5""##;
+pub const GOSSIP_COLOUR: &str = "#9a5bb5";
 
 /// The picture of a schedule as one SVG text.
 pub fn draw(input: &[u8]) -> Result<String, String> {
-    let story = story(input)?;
-    if story.calls.is_empty() {
-        return Err("no call of this schedule is accepted".to_string());
-    }
+    Ok(picture(&story(input)?))
+}
+
+pub fn picture(story: &Story) -> String {
     let mut picture = Picture::new(story);
-    picture.legend();
-    picture.columns();
-    picture.lanes();
-    picture.bars();
-    picture.arrows();
-    picture.marks();
-    picture.line_of_operations();
-    Ok(picture.svg.finish())
+    if !story.calls.is_empty() {
+        picture.legend();
+        picture.columns();
+        picture.lanes();
+        picture.bars();
+        picture.arrows();
+        picture.marks();
+    }
+    picture.below();
+    picture.svg.finish()
 }
 
-struct Picture {
-    story: Story,
-    svg: Svg,
-    bottom: f64,
+pub struct Picture<'a> {
+    pub story: &'a Story,
+    pub rows: Rows,
+    pub svg: Svg,
 }
 
-impl Picture {
-    fn new(story: Story) -> Picture {
-        let lanes = (story.clients + story.directories + story.replicas) as f64;
-        let bottom = TOP + lanes * LANE + 2.0 * GROUP_GAP;
-        let width = (LEFT + story.calls.len() as f64 * COLUMN + RIGHT).max(NARROWEST);
-        let per_row = boxes_per_row(width);
-        let rows: usize = story.histories.iter().map(|one| one.operations.len() / per_row + 1).sum();
-        let height = bottom + 50.0 + rows as f64 * (BOX.1 + 34.0);
-        Picture { story, svg: Svg::new(width, height), bottom }
-    }
-
-    fn x(&self, column: usize) -> f64 {
-        LEFT + (column as f64 + 0.5) * COLUMN
-    }
-
-    fn y(&self, party: Party, id: u32) -> f64 {
-        let Story { clients, directories, .. } = self.story;
-        let (lane, group) = match party {
-            Party::Client => (id - 1, 0.0),
-            Party::Directory => (clients + id - 1, 1.0),
-            Party::Replica => (clients + directories + id - 1, 2.0),
+impl<'a> Picture<'a> {
+    fn new(story: &'a Story) -> Picture<'a> {
+        let most = |count: fn(&Numbers) -> u32| story.machines.iter().map(|one| count(&one.numbers)).max().unwrap_or(0);
+        let heads = (0..story.calls.len()).map(|column| head(story, column).len()).max().unwrap_or(0);
+        let rows = Rows {
+            columns: story.calls.len(),
+            clients: most(|n| n.nc),
+            directories: most(|n| n.nd),
+            replicas: most(|n| n.nr),
+            top: if heads == 0 { 0.0 } else { LEGEND },
+            heads: STEEP * heads as f64 + 12.0,
         };
-        TOP + (lane as f64 + 0.5) * LANE + group * GROUP_GAP
-    }
-
-    fn parties(&self) -> Vec<(Party, u32, String)> {
-        let group = |party, count, name: &'static str| (1..=count).map(move |id| (party, id, format!("{name} {id}")));
-        let Story { clients, directories, replicas, .. } = self.story;
-        group(Party::Client, clients, "client")
-            .chain(group(Party::Directory, directories, "directory"))
-            .chain(group(Party::Replica, replicas, "replica"))
-            .collect()
+        Picture { story, rows, svg: Svg::new(WIDTH) }
     }
 
     fn legend(&mut self) {
-        let svg = &mut self.svg;
-        let entries = [("to or from a directory", Party::Directory), ("to or from a replica", Party::Replica)];
-        let mut x = 12.0;
-        for (text, party) in entries {
-            svg.line((x, 16.0), (x + 26.0, 16.0), &format!(r#"stroke="{}" stroke-width="1.6""#, colour(party)));
-            svg.text((x + 32.0, 20.0), 11.0, PLAIN_TEXT, text);
-            x += 170.0;
+        let strokes = [
+            ("to or from a directory", colour(Party::Directory), ""),
+            ("to or from a replica", colour(Party::Replica), ""),
+            ("gossip, notice", GOSSIP_COLOUR, ""),
+            ("stale", "#999", r#" stroke-dasharray="3 3""#),
+        ];
+        let (mut x, y, svg) = (12.0, 16.0, &mut self.svg);
+        for (text, colour, dashes) in strokes {
+            svg.line((x, y), (x + 26.0, y), &format!(r#"stroke="{colour}" stroke-width="1.6"{dashes}"#));
+            svg.text((x + 32.0, y + 4.0), 11.0, PLAIN_TEXT, text);
+            x += 54.0 + 5.6 * text.len() as f64;
         }
-        svg.line((x, 16.0), (x + 26.0, 16.0), r##"stroke="#9a5bb5" stroke-width="1.6""##);
-        svg.text((x + 32.0, 20.0), 11.0, PLAIN_TEXT, "gossip, notice");
-        svg.line((x + 130.0, 16.0), (x + 156.0, 16.0), r##"stroke="#999" stroke-dasharray="3 3""##);
-        svg.text((x + 162.0, 20.0), 11.0, PLAIN_TEXT, "stale");
-        svg.cross((x + 218.0, 16.0), 4.0, RED);
-        svg.text((x + 228.0, 20.0), 11.0, PLAIN_TEXT, "dropped; on a lane: crash");
-        svg.circle((x + 382.0, 16.0), 3.5, r##"fill="none" stroke="#999""##);
-        svg.text((x + 392.0, 20.0), 11.0, PLAIN_TEXT, "still waiting");
+        svg.cross((x + 4.0, y), 4.0, RED);
+        svg.text((x + 14.0, y + 4.0), 11.0, PLAIN_TEXT, "dropped; on a lane: crash");
+        svg.circle((x + 172.0, y), 3.5, r##"fill="none" stroke="#999""##);
+        svg.text((x + 182.0, y + 4.0), 11.0, PLAIN_TEXT, "still waiting");
+        if self.story.arrows.iter().any(|arrow| arrow.fate == Fate::Lost) {
+            svg.bar((x + 276.0, y), RED);
+            svg.text((x + 288.0, y + 4.0), 11.0, PLAIN_TEXT, "lost on its way");
+        }
     }
 
-    /// The text of each call over its column, and a wall where a machine is set up.
+    /// Row by row, so that a page can find a row as a whole.
     fn columns(&mut self) {
-        for column in 0..self.story.calls.len() {
-            let (x, call) = (self.x(column), self.story.calls[column].clone());
-            self.svg.line((x, TOP), (x, self.bottom), r##"stroke="#f0efe9""##);
-            let is_set_up = self.story.set_ups.contains(&column);
-            if is_set_up {
-                self.svg.line((x, TOP), (x, self.bottom), r##"stroke="#555" stroke-width="3" stroke-opacity="0.35""##);
-            }
-            let text = if is_set_up { "set-up" } else { &call };
-            self.svg.steep((x + 2.0, TOP - 6.0), 11.0, text);
+        let all: Vec<usize> = (0..self.story.calls.len()).collect();
+        for row in all.chunks(PER_ROW) {
+            self.svg.open(r#"class="row""#);
+            row.iter().for_each(|&column| self.column(column));
+            self.svg.close();
         }
     }
 
+    /// Number and text of a call over its column, and a wall where a machine is set up.
+    fn column(&mut self, column: usize) {
+        let from = self.rows.point((moment(column), 0.0));
+        let to = self.rows.point((moment(column), self.rows.lanes()));
+        self.svg.open(r#"class="column""#);
+        self.svg.line(from, to, r##"class="guide" stroke="#f0efe9""##);
+        if is_set_up(self.story, column) {
+            self.svg.line(from, to, r##"stroke="#555" stroke-width="3" stroke-opacity="0.35""##);
+        }
+        self.svg.steep((from.0 + 2.0, from.1 - 4.0), 11.0, &head(self.story, column));
+        self.svg.close();
+    }
+
+    /// Each machine has lanes for its own parties; their names stand before every row.
     fn lanes(&mut self) {
-        let end = self.x(self.story.calls.len() - 1) + COLUMN / 2.0;
-        for (party, id, name) in self.parties() {
-            let y = self.y(party, id);
-            self.svg.text((10.0, y + 4.0), 12.0, PLAIN_TEXT, &name);
-            self.svg.line((LEFT, y), (end, y), r##"stroke="#b9b7ae""##);
+        let Rows { clients: nc, directories: nd, replicas: nr, .. } = self.rows;
+        let all = Numbers { nc, nd, nr, f: 0, rq: 0, wq: 0, top: 0 };
+        for (party, id) in words::rows(&all) {
+            self.lane(party, id);
+        }
+    }
+
+    fn lane(&mut self, party: Party, id: u32) {
+        let story = self.story;
+        let mut named = None;
+        for machine in story.machines.iter().filter(|one| id <= count(&one.numbers, party)) {
+            let height = self.rows.height_of(party, id);
+            let end = story.end_of(machine.column) as f64;
+            for piece in self.rows.pieces((moment(machine.column), height), (end, height)) {
+                if named.replace(piece.row) != Some(piece.row) {
+                    let name = format!("{} {id}", party_name(party));
+                    self.svg.text((10.0, piece.from.1 + 4.0), 12.0, PLAIN_TEXT, &name);
+                }
+                self.svg.line(piece.from, piece.to, r##"stroke="#b9b7ae""##);
+            }
         }
     }
 
     fn bars(&mut self) {
-        for (index, history) in self.story.histories.clone().iter().enumerate() {
-            let last = self.story.end_of(self.story.set_ups[index]);
-            history.operations.iter().for_each(|operation| self.bar(operation, last));
+        let story = self.story;
+        for (machine, history) in story.machines.iter().zip(&story.histories) {
+            let end = story.end_of(machine.column) as f64;
+            history.operations.iter().for_each(|operation| self.bar(operation, end));
         }
     }
 
-    fn bar(&mut self, operation: &Operation, last: usize) {
-        let from = self.x(self.story.column(operation.start));
-        let to = operation.end.map_or(self.x(last) + COLUMN / 2.0, |line| self.x(self.story.column(line)));
-        let y = self.y(Party::Client, operation.client) - BAR / 2.0;
+    fn bar(&mut self, operation: &Operation, machine_end: f64) {
+        let at = |line| moment(self.story.column(line).unwrap_or(0));
+        let height = self.rows.height_of(Party::Client, operation.client) - BAR / 2.0;
+        let (from, to) = (at(operation.start), operation.end.map_or(machine_end, at));
         let fill = if operation.kind == Kind::Write { WRITE_FILL } else { READ_FILL };
         let open = if operation.end.is_none() { OPEN_ENDED } else { "" };
-        self.svg.rect(from, y, to - from, BAR, &format!(r#"{fill} {open} rx="4""#));
-        self.svg.text((from + 5.0, y - 3.0), 10.5, PLAIN_TEXT, &bar_text(operation));
-    }
-
-    fn arrows(&mut self) {
-        for arrow in self.story.arrows.clone() {
-            self.arrow(&arrow);
+        let text = bar_text(operation);
+        for piece in self.rows.pieces((from, height), (to, height)) {
+            let (x, y) = piece.from;
+            self.svg.rect(x, y, piece.to.0 - x, BAR, &format!(r#"{fill} {open} rx="4""#));
+            self.svg.text((fitting(x + 5.0, &text, 10.5), y - 3.0), 10.5, PLAIN_TEXT, &text);
         }
-    }
-
-    fn arrow(&mut self, arrow: &Arrow) {
-        let ((from, sender), (to, receiver)) = ends_of(&arrow.message);
-        let start = (self.x(arrow.sent), self.y(from, sender));
-        let aim = (self.x(arrow.arrived), self.y(to, receiver));
-        if arrow.fate == Fate::Waiting {
-            return self.stub(start, aim.1);
-        }
-        let colour = arrow_colour(arrow);
-        let dashes = if arrow.fate == Fate::Taken { "" } else { r#" stroke-dasharray="3 3""# };
-        self.svg.line(start, aim, &format!(r#"stroke="{colour}" stroke-width="1.3"{dashes}"#));
-        match arrow.fate {
-            Fate::Dropped => self.svg.cross(aim, 4.0, RED),
-            _ => self.head(start, aim, colour),
-        }
-        self.label(start, aim, colour, &arrow.message);
-    }
-
-    /// Two short strokes at the tip.
-    fn head(&mut self, from: (f64, f64), to: (f64, f64), colour: &str) {
-        let angle = (to.1 - from.1).atan2(to.0 - from.0);
-        for turn in [2.7, -2.7] {
-            let tip = (to.0 + 7.0 * (angle + turn).cos(), to.1 + 7.0 * (angle + turn).sin());
-            self.svg.line(to, tip, &format!(r#"stroke="{colour}" stroke-width="1.3""#));
-        }
-    }
-
-    /// The kind, nearer the tip, where arrows of one step have parted; receivers differ in height.
-    fn label(&mut self, from: (f64, f64), to: (f64, f64), colour: &str, message: &Message) {
-        let part = 0.56 + 0.1 * (message.to % 4) as f64;
-        let at = (from.0 + (to.0 - from.0) * part + 3.0, from.1 + (to.1 - from.1) * part - 2.0);
-        let halo = r##"paint-order="stroke" stroke="#fdfdfb" stroke-width="2.5""##;
-        self.svg.text(at, 8.5, &format!(r#"fill="{colour}" {halo}"#), kind_name(message.kind));
-    }
-
-    fn stub(&mut self, start: (f64, f64), aim: f64) {
-        let tip = (start.0 + 9.0, start.1 + 14.0 * (aim - start.1).signum());
-        self.svg.line(start, tip, r##"stroke="#999" stroke-dasharray="2 2""##);
-        self.svg.circle(tip, 2.5, r##"fill="none" stroke="#999""##);
     }
 
     fn marks(&mut self) {
-        for Mark { party, id, column } in self.story.crashes.clone() {
-            let at = (self.x(column), self.y(party, id));
-            let end = self.x(self.story.end_of(column)) + COLUMN / 2.0;
-            self.svg.line(at, (end, at.1), r##"stroke="#fdfdfb" stroke-width="3" stroke-dasharray="5 5""##);
-            self.svg.cross(at, 7.0, RED);
-        }
-        for Mark { party, id, column } in self.story.tidied.clone() {
-            let at = (self.x(column), self.y(party, id));
-            self.svg.rect(at.0 - 5.0, at.1 - 5.0, 10.0, 10.0, r##"fill="#fff" stroke="#555""##);
-            self.svg.text((at.0 + 8.0, at.1 - 4.0), 8.5, PLAIN_TEXT, "tidy");
-        }
-    }
-
-    fn line_of_operations(&mut self) {
-        let mut y = self.bottom + 34.0;
-        for history in self.story.histories.clone() {
-            self.svg.text((12.0, y), 12.0, PLAIN_TEXT, "The operations in one line:");
-            y += 10.0;
-            y = match order::line_of(&history) {
-                Ok(line) => self.boxes(&history, &line, y),
-                Err(why) => self.refusal(&why, y),
-            };
-        }
-        self.svg.height = y + 6.0;
-    }
-
-    fn refusal(&mut self, why: &str, y: f64) -> f64 {
-        self.svg.text((12.0, y + 20.0), 12.0, r##"fill="#c62828""##, &format!("There is none: {why}"));
-        y + BOX.1 + 24.0
-    }
-
-    /// The first page and then each operation, left to right; gives back where the next may begin.
-    fn boxes(&mut self, history: &History, line: &[Operation], y: f64) -> f64 {
-        let per_row = boxes_per_row(self.svg.width);
-        let place = |index: usize| {
-            (12.0 + (index % per_row) as f64 * (BOX.0 + 14.0), y + (index / per_row) as f64 * (BOX.1 + 10.0))
-        };
-        let first = [("first page".to_string(), history.first_word.to_string(), r##"fill="#fff" stroke="#888""##)];
-        let rest = line.iter().map(|operation| {
-            let fill = if operation.kind == Kind::Write { WRITE_FILL } else { READ_FILL };
-            (bar_text(operation), box_text(operation), fill)
-        });
-        let mut end = y;
-        for (index, (name, below, fill)) in first.into_iter().chain(rest).enumerate() {
-            let (x, y) = place(index);
-            self.svg.rect(x, y, BOX.0, BOX.1, &format!(r#"{fill} rx="4""#));
-            self.svg.text((x + BOX.0 / 2.0, y + 16.0), 11.0, CENTRE_TEXT, &name);
-            self.svg.text((x + BOX.0 / 2.0, y + 32.0), 10.5, CENTRE_TEXT, &below);
-            if index % per_row > 0 {
-                self.svg.line((x - 13.0, y + BOX.1 / 2.0), (x - 1.0, y + BOX.1 / 2.0), r##"stroke="#555""##);
+        let story = self.story;
+        for mark in &story.crashes {
+            let at = self.spot(mark);
+            let end = (story.end_of(mark.column) as f64, at.1);
+            for piece in self.rows.pieces(at, end) {
+                self.svg.line(piece.from, piece.to, r##"stroke="#fdfdfb" stroke-width="3" stroke-dasharray="5 5""##);
             }
-            end = y + BOX.1;
+            self.svg.cross(self.rows.point(at), 7.0, RED);
         }
-        end + 30.0
+        for mark in &story.tidied {
+            let (x, y) = self.rows.point(self.spot(mark));
+            self.svg.rect(x - 5.0, y - 5.0, 10.0, 10.0, r##"fill="#fff" stroke="#555""##);
+            self.svg.text((x + 8.0, y - 4.0), 8.5, PLAIN_TEXT, "tidy");
+        }
+    }
+
+    /// Moment and height of a mark.
+    fn spot(&self, mark: &Mark) -> (f64, f64) {
+        (moment(mark.column), self.rows.height_of(mark.party, mark.id))
     }
 }
 
-fn boxes_per_row(width: f64) -> usize {
-    ((width - 24.0) / (BOX.0 + 14.0)) as usize
+fn is_set_up(story: &Story, column: usize) -> bool {
+    story.machines.binary_search_by_key(&column, |machine| machine.column).is_ok()
 }
 
-fn bar_text(operation: &Operation) -> String {
+/// "12 D 3"; a set-up's numbers stand with its operations.
+fn head(story: &Story, column: usize) -> String {
+    let call = &story.calls[column];
+    let text = if is_set_up(story, column) { "set-up" } else { &call.text };
+    format!("{} {text}", call.line)
+}
+
+fn count(n: &Numbers, party: Party) -> u32 {
+    match party {
+        Party::Client => n.nc,
+        Party::Directory => n.nd,
+        Party::Replica => n.nr,
+    }
+}
+
+pub fn bar_text(operation: &Operation) -> String {
     match (operation.kind, operation.end.is_some()) {
         (Kind::Write, _) if operation.spent => format!("write {} spent", operation.word),
         (Kind::Write, true) => format!("write {}", operation.word),
@@ -259,23 +208,9 @@ fn bar_text(operation: &Operation) -> String {
     }
 }
 
-fn box_text(operation: &Operation) -> String {
-    let tag = operation.tag.unwrap_or_default();
-    format!("client {}  ({},{})", operation.client, tag.number, tag.client)
-}
-
-fn colour(party: Party) -> &'static str {
+pub fn colour(party: Party) -> &'static str {
     match party {
         Party::Replica => "#c2701d",
         _ => "#2f6f9f",
-    }
-}
-
-fn arrow_colour(arrow: &Arrow) -> &'static str {
-    let ((from, _), (to, _)) = ends_of(&arrow.message);
-    match (arrow.fate, from, to) {
-        (Fate::Stale, ..) => "#999",
-        (_, Party::Client, other) | (_, other, Party::Client) => colour(other),
-        _ => "#9a5bb5",
     }
 }

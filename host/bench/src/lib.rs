@@ -2,6 +2,8 @@
 //! operations of what they answered, pictures, and why an operation is still open.
 #![forbid(unsafe_code)]
 
+pub mod arrows;
+pub mod below;
 pub mod compare;
 pub mod draw;
 pub mod ending;
@@ -20,6 +22,8 @@ pub mod order;
 pub mod premises;
 pub mod prng;
 pub mod profile;
+pub mod refused;
+pub mod rows;
 pub mod schedule;
 pub mod shrink;
 pub mod steps;
@@ -27,6 +31,7 @@ pub mod story;
 pub mod svg;
 pub mod tally;
 pub mod tell;
+pub mod underway;
 pub mod view;
 pub mod why;
 pub mod words;

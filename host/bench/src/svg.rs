@@ -9,12 +9,22 @@ pub struct Svg {
 }
 
 impl Svg {
-    pub fn new(width: f64, height: f64) -> Svg {
-        Svg { body: String::new(), width, height }
+    /// The height is known when all is drawn.
+    pub fn new(width: f64) -> Svg {
+        Svg { body: String::new(), width, height: 0.0 }
     }
 
     fn add(&mut self, shape: std::fmt::Arguments<'_>) {
         let _ = writeln!(self.body, "{shape}"); // writing into a String cannot fail
+    }
+
+    /// Begins a group, which a page can find by its attributes.
+    pub fn open(&mut self, attributes: &str) {
+        self.add(format_args!("<g {attributes}>"));
+    }
+
+    pub fn close(&mut self) {
+        self.add(format_args!("</g>"));
     }
 
     pub fn line(&mut self, from: (f64, f64), to: (f64, f64), style: &str) {
@@ -38,6 +48,11 @@ impl Svg {
         self.line((x - size, y + size), (x + size, y - size), style);
     }
 
+    /// A short level stroke.
+    pub fn bar(&mut self, at: (f64, f64), style: &str) {
+        self.line((at.0 - 6.0, at.1), (at.0 + 6.0, at.1), style);
+    }
+
     pub fn text(&mut self, at: (f64, f64), size: f64, style: &str, text: &str) {
         self.add(format_args!(
             r#"<text x="{:.1}" y="{:.1}" font-size="{size}" {style}>{}</text>"#,
@@ -49,7 +64,7 @@ impl Svg {
 
     /// Text that rises from its start, for narrow columns.
     pub fn steep(&mut self, at: (f64, f64), size: f64, text: &str) {
-        let turn = format!(r##"fill="#444" transform="rotate(-60 {:.1} {:.1})""##, at.0, at.1);
+        let turn = format!(r##"fill="#444" transform="rotate(-68 {:.1} {:.1})""##, at.0, at.1);
         self.text(at, size, &turn, text);
     }
 
@@ -63,6 +78,6 @@ impl Svg {
     }
 }
 
-fn escaped(text: &str) -> String {
+pub fn escaped(text: &str) -> String {
     text.replace('&', "&amp;").replace('<', "&lt;").replace('>', "&gt;")
 }

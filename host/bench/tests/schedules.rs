@@ -1,9 +1,9 @@
-//! What the generator promises, and the picture.
+//! What the generator promises.
 
 use bench::compare::copy_output;
 use bench::history::{lines, Printed};
 use bench::tally::Tally;
-use bench::{cold_schedule, draw, night, schedule};
+use bench::{cold_schedule, night, schedule};
 use copy::line::{parse, Call};
 use std::collections::HashSet;
 
@@ -59,13 +59,4 @@ fn a_night_is_all_accepted() {
     assert_eq!(lines(&input).count(), 5000);
     let accepted = |line: &[u8]| Printed::parse(line).is_some_and(|printed| printed.code < 16);
     assert!(lines(&output).all(accepted));
-}
-
-#[test]
-fn pictures_of_all_sorts_of_schedule() {
-    for seed in 0..10 {
-        let svg = draw::draw(&schedule(seed, 60)).expect("a picture");
-        assert!(svg.starts_with("<svg") && svg.ends_with("</svg>\n") && !svg.contains("NaN"));
-    }
-    assert!(draw::draw(b"R 1\n").is_err());
 }

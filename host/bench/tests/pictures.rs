@@ -1,0 +1,12 @@
+//! Pictures of schedules: nothing disappears, nothing jumps, nothing leaves the page.
+
+#[path = "pictures/arrows.rs"]
+mod arrows;
+#[path = "pictures/matter.rs"]
+mod matter;
+#[path = "pictures/rows.rs"]
+mod rows;
+#[path = "pictures/shapes.rs"]
+mod shapes;
+#[path = "pictures/whole.rs"]
+mod whole;
