@@ -2,8 +2,9 @@
 
 use bench::compare::{compare_all, copy_output, Seeded};
 use bench::files::{open, read, write};
-use bench::{draw, external, night, order, schedule, tell, why};
+use bench::{draw, external, night, order, page, schedule, tell, why};
 use std::io::{self, Write};
+use std::path::Path;
 use std::time::{Duration, Instant};
 
 /// Why a command did not do what was asked: it was asked wrongly, or it failed.
@@ -51,7 +52,12 @@ const COMMANDS: [Command; 10] = [
         run: tell_file,
     },
     Command { name: "why", arguments: "FILE", what: "says what holds up each operation still open", run: explain },
-    Command { name: "draw", arguments: "FILE OUT.svg", what: "draws a schedule", run: draw_file },
+    Command {
+        name: "draw",
+        arguments: "FILE OUT",
+        what: "draws a schedule: OUT.svg is a picture, OUT.html a page to step through",
+        run: draw_file,
+    },
     Command {
         name: "soak",
         arguments: "MINUTES",
@@ -177,9 +183,21 @@ fn tell_all(input: &[u8]) -> Done {
     Ok(quietly(told.and_then(|()| out.flush()))?)
 }
 
+/// The ending of OUT says what is drawn.
 fn draw_file(words: &[&str]) -> Done {
     let [file, out] = exactly(words)?;
-    Ok(write(out, &draw::draw(&read(file)?)?)?)
+    let ending = Path::new(out).extension().and_then(|ending| ending.to_str());
+    let text = match ending {
+        Some("svg") => draw::draw(&read(file)?)?,
+        Some("html") => page::page(&title(file), &read(file)?)?,
+        _ => return Err(Trouble::Misuse(format!("OUT ends in .svg or .html, not so {out}"))),
+    };
+    Ok(write(out, &text)?)
+}
+
+/// A page is called after its schedule's file, wherever that lies.
+fn title(file: &str) -> String {
+    Path::new(file).file_name().map_or(file.to_string(), |name| name.to_string_lossy().into_owned())
 }
 
 /// Compares batches of ever new seeds until the time is over.

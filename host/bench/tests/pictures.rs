@@ -1,9 +1,13 @@
-//! Pictures of schedules: nothing disappears, nothing jumps, nothing leaves the page.
+//! Pictures and pages of schedules: nothing disappears, nothing jumps, nothing leaves the page.
 
 #[path = "pictures/arrows.rs"]
 mod arrows;
+#[path = "pictures/command.rs"]
+mod command;
 #[path = "pictures/matter.rs"]
 mod matter;
+#[path = "pictures/page.rs"]
+mod page;
 #[path = "pictures/rows.rs"]
 mod rows;
 #[path = "pictures/shapes.rs"]
