@@ -1,19 +1,19 @@
 //! The refused lines of a schedule, listed shortly: none is left out.
 
 use crate::names;
-use std::collections::BTreeSet;
+use std::collections::BTreeMap;
 
 /// A run of refused lines with more entries than this becomes one entry, so that the list
 /// stays small beside the picture, whatever the schedule.
-const MOST_OF_A_RUN: usize = 24;
+const MOST_OF_A_RUN: usize = 500;
 /// Characters shown of a line's text.
 const MOST_OF_A_LINE: usize = 40;
 
-/// Refused lines that follow each other, and the codes that they got.
+/// Refused lines that follow each other, and how many got which code.
 struct Entry {
     first: usize,
     last: usize,
-    codes: BTreeSet<u32>,
+    codes: BTreeMap<u32, usize>,
     /// The text of a line that stands alone.
     text: String,
 }
@@ -46,7 +46,8 @@ impl Refused {
         self.entries.iter().map(|entry| entry.last + 1 - entry.first).sum()
     }
 
-    /// `line 7, "D 3": 22 EMPTY` or `lines 7 to 9: 18 BAD ARGUMENT`.
+    /// `line 7, "D 3": 22 EMPTY` or `lines 7 to 9: 18 BAD ARGUMENT`; of a long run that is one
+    /// entry, how often each code came.
     pub fn texts(&self) -> Vec<String> {
         self.entries.iter().map(Entry::told).collect()
     }
@@ -54,24 +55,27 @@ impl Refused {
 
 impl Entry {
     fn new(line: usize, code: u32, raw: &[u8]) -> Entry {
-        Entry { first: line, last: line, codes: BTreeSet::from([code]), text: shown(raw) }
+        Entry { first: line, last: line, codes: BTreeMap::from([(code, 1)]), text: shown(raw) }
     }
 
     fn takes(&self, code: u32) -> bool {
-        self.codes.len() > 1 || self.codes.contains(&code)
+        self.codes.len() > 1 || self.codes.contains_key(&code)
     }
 
     fn join(&mut self, next: Entry) {
         self.last = next.last;
         self.text.clear();
-        self.codes.extend(next.codes);
+        next.codes.into_iter().for_each(|(code, count)| *self.codes.entry(code).or_default() += count);
     }
 
     fn told(&self) -> String {
         let Entry { first, last, codes, text } = self;
         let lines = if first == last { format!("line {first}, {text}") } else { format!("lines {first} to {last}") };
-        let codes: Vec<String> = codes.iter().map(|&code| names::code(code)).collect();
-        format!("{lines}: {}", codes.join(", "))
+        let told = |(&code, count): (&u32, &usize)| match codes.len() {
+            1 => names::code(code),
+            _ => format!("{count} times {}", names::code(code)),
+        };
+        format!("{lines}: {}", codes.iter().map(told).collect::<Vec<_>>().join(", "))
     }
 }
 

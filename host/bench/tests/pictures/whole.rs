@@ -128,7 +128,7 @@ fn many_refused_lines_stay_small() {
     input.extend(b"D 3\nR 9\n<\nD 4\nR 9\n".repeat(200_000));
     let svg = draw(&input).expect("a picture");
     assert!(svg.len() < 10_000, "{}", svg.len());
-    assert!(svg.contains("lines 2 to 1000001: 18 BAD ARGUMENT, 22 EMPTY"));
+    assert!(svg.contains("lines 2 to 1000001: 600000 times 18 BAD ARGUMENT, 400000 times 22 EMPTY"));
 }
 
 /// Work grows with the lines and no faster: twenty thousand lines are a matter of a second.
