@@ -1,25 +1,14 @@
 //! The commands: what each takes, what it says of itself, and what it does.
 
-use bench::compare::{compare_all, copy_output, Seeded};
+use crate::asking::{exactly, lines, listed_code, misuse, number, seed, Done};
+use crate::saying::{note, print, print_all, rewrite};
+use bench::compare::{compare_one, copy_output};
 use bench::files::{open, read, write};
-use bench::{draw, external, night, order, page, schedule, tell, why};
-use std::io::{self, Write};
+use bench::history::raw_lines;
+use bench::tally::counted;
+use bench::{draw, external, night, order, page, schedule, shrink, soak, tell, why};
 use std::path::Path;
-use std::time::{Duration, Instant};
-
-/// Why a command did not do what was asked: it was asked wrongly, or it failed.
-pub enum Trouble {
-    Misuse(String),
-    Failure(String),
-}
-
-impl From<String> for Trouble {
-    fn from(why: String) -> Trouble {
-        Trouble::Failure(why)
-    }
-}
-
-pub type Done = Result<(), Trouble>;
+use std::time::Duration;
 
 pub struct Command {
     name: &'static str,
@@ -28,47 +17,34 @@ pub struct Command {
     pub run: fn(&[&str]) -> Done,
 }
 
+#[rustfmt::skip] // a table
+const COMMANDS: [Command; 12] = [
+    Command { name: "generate", arguments: "SEED LINES", what: "prints a schedule, the same for the same seed", run: generate },
+    Command { name: "night", arguments: "LINES", what: "prints the night rehearsal, a schedule for timing", run: night_of },
+    Command { name: "run", arguments: "FILE", what: "prints the proved program's answers to a schedule", run: run_proved },
+    Command { name: "rehearse", arguments: "FILE", what: "prints the copy's answers to a schedule", run: rehearse },
+    Command { name: "compare", arguments: "FILE", what: "compares the two on a schedule: equal, or the first line that differs", run: compare },
+    Command { name: "shrink", arguments: "FILE [--code CODE]", what: "prints the smallest schedule found that still differs, or still has the code", run: shrink_file },
+    Command { name: "check", arguments: "FILE ANSWERS", what: "checks any program's answers and sets the operations in one line", run: check },
+    Command { name: "tell", arguments: "FILE [LINE]", what: "tells a schedule in words, or the whole machine after a line", run: tell_file },
+    Command { name: "draw", arguments: "FILE OUT", what: "draws a schedule: OUT.svg is a picture, OUT.html a page to step through", run: draw_file },
+    Command { name: "why", arguments: "FILE", what: "says what holds up each operation that is open at the end", run: explain },
+    Command { name: "soak", arguments: "MINUTES [SEED]", what: "compares the two on ever new schedules", run: soak_for },
+    Command { name: "help", arguments: "[COMMAND]", what: "prints these lines, or one of them", run: help },
+];
+
 impl Command {
     fn usage(&self) -> String {
         format!("bench {} {}", self.name, self.arguments)
     }
 }
 
-const COMMANDS: [Command; 10] = [
-    Command { name: "generate", arguments: "SEED LINES", what: "prints a schedule", run: generate },
-    Command { name: "night", arguments: "LINES", what: "prints the night rehearsal", run: night_of },
-    Command { name: "rehearse", arguments: "FILE", what: "prints the copy's answers to a schedule", run: rehearse },
-    Command { name: "run", arguments: "FILE", what: "prints the proved program's answers to it", run: run_proved },
-    Command {
-        name: "check",
-        arguments: "FILE ANSWERS",
-        what: "sets the operations of any program's answers in one line",
-        run: check,
-    },
-    Command {
-        name: "tell",
-        arguments: "FILE [LINE]",
-        what: "tells a schedule in words, or the whole machine after a line",
-        run: tell_file,
-    },
-    Command { name: "why", arguments: "FILE", what: "says what holds up each operation still open", run: explain },
-    Command {
-        name: "draw",
-        arguments: "FILE OUT",
-        what: "draws a schedule: OUT.svg is a picture, OUT.html a page to step through",
-        run: draw_file,
-    },
-    Command {
-        name: "soak",
-        arguments: "MINUTES",
-        what: "compares the copy and the program on ever new schedules",
-        run: soak,
-    },
-    Command { name: "help", arguments: "[COMMAND]", what: "prints these lines, or one of them", run: help },
-];
-
 pub fn find(name: &str) -> Option<&'static Command> {
     COMMANDS.iter().find(|command| command.name == name)
+}
+
+pub fn line_of(command: &Command) -> String {
+    format!("{}  {}\n", command.usage(), command.what)
 }
 
 pub fn lines_of_all() -> String {
@@ -76,71 +52,25 @@ pub fn lines_of_all() -> String {
     COMMANDS.iter().map(|command| format!("{:widest$}  {}\n", command.usage(), command.what)).collect()
 }
 
-pub fn line_of(command: &Command) -> String {
-    format!("{}  {}\n", command.usage(), command.what)
-}
-
 pub fn help(words: &[&str]) -> Done {
     match words {
         [] => Ok(print(lines_of_all().as_bytes())?),
-        [name] => {
-            let command = find(name).ok_or_else(|| Trouble::Misuse(format!("there is no command {name}")))?;
-            Ok(print(line_of(command).as_bytes())?)
-        }
-        _ => Err(Trouble::Misuse(format!("COMMAND or nothing is wanted and {} arguments given", words.len()))),
-    }
-}
-
-/// Exactly so many arguments.
-fn exactly<'a, const N: usize>(words: &[&'a str]) -> Result<[&'a str; N], Trouble> {
-    <[&str; N]>::try_from(words).map_err(|_| Trouble::Misuse(wrong_count(words.len(), N)))
-}
-
-fn wrong_count(given: usize, wanted: usize) -> String {
-    let arguments = if wanted == 1 { "argument is" } else { "arguments are" };
-    format!("{wanted} {arguments} wanted and {given} given")
-}
-
-/// A number from 0 or 1 on, and not beyond what its command can do.
-fn number(name: &str, text: &str, least: u64, most: u64) -> Result<u64, Trouble> {
-    let value = text.parse().ok().filter(|value| (least..=most).contains(value));
-    value.ok_or_else(|| Trouble::Misuse(format!("{name} is a number from {least} to {most}, not {text}")))
-}
-
-/// So many lines still fit into memory.
-const MOST_LINES: u64 = 100_000_000;
-
-fn lines(text: &str) -> Result<usize, Trouble> {
-    number("LINES", text, 1, MOST_LINES).map(|lines| lines as usize)
-}
-
-fn print(bytes: &[u8]) -> Result<(), String> {
-    let mut out = io::stdout().lock();
-    quietly(out.write_all(bytes).and_then(|()| out.flush()))
-}
-
-/// A reader that went away is no failure.
-fn quietly(result: io::Result<()>) -> Result<(), String> {
-    match result {
-        Err(error) if error.kind() != io::ErrorKind::BrokenPipe => Err(format!("the output failed: {error}")),
-        _ => Ok(()),
+        [name] => match find(name) {
+            Some(command) => Ok(print(line_of(command).as_bytes())?),
+            None => misuse(format!("there is no command {name}")),
+        },
+        _ => misuse("COMMAND is wanted, or nothing"),
     }
 }
 
 fn generate(words: &[&str]) -> Done {
-    let [seed, count] = exactly(words)?;
-    let (seed, count) = (number("SEED", seed, 0, u64::MAX)?, lines(count)?);
-    Ok(print(&schedule(seed, count))?)
+    let [from, count] = exactly(words)?;
+    Ok(print(&schedule(seed(from)?, lines(count)?))?)
 }
 
 fn night_of(words: &[&str]) -> Done {
     let [count] = exactly(words)?;
     Ok(print(&night::night(lines(count)?))?)
-}
-
-fn rehearse(words: &[&str]) -> Done {
-    let [file] = exactly(words)?;
-    Ok(print(&copy_output(&read(file)?))?)
 }
 
 /// As `rehearse < FILE`, with a status.
@@ -149,48 +79,60 @@ fn run_proved(words: &[&str]) -> Done {
     Ok(external::pass(&external::program()?, open(file)?)?)
 }
 
-/// The line of operations on what any program answered.
-fn check(words: &[&str]) -> Done {
-    let [file, answers] = exactly(words)?;
-    let count = order::check(&read(file)?, &read(answers)?)?;
-    Ok(print(format!("{count} operations in line\n").as_bytes())?)
+fn rehearse(words: &[&str]) -> Done {
+    let [file] = exactly(words)?;
+    Ok(print(&copy_output(&read(file)?))?)
 }
 
-/// Why each operation that is open is open; one that is ours is a failure.
-fn explain(words: &[&str]) -> Done {
+fn compare(words: &[&str]) -> Done {
     let [file] = exactly(words)?;
-    let told = why::why(&read(file)?);
-    print(told.text.as_bytes())?;
-    Ok(told.status()?)
+    let equal = compare_one(&external::program()?, &read(file)?)?;
+    Ok(print(format!("equal: {}\n", counted(equal as u64, "line")).as_bytes())?)
+}
+
+fn shrink_file(words: &[&str]) -> Done {
+    let (file, code) = match words {
+        [file, "--code", code] | ["--code", code, file] => (file, Some(listed_code(code)?)),
+        [file] if *file != "--code" => (file, None),
+        _ => return misuse("FILE is wanted, and nothing else but --code CODE"),
+    };
+    let input = read(file)?;
+    let shrunk = match code {
+        Some(code) => shrink::to_code(&input, code)?,
+        None => shrink::to_difference(&external::program()?, &input)?,
+    };
+    print(&shrunk.schedule)?;
+    note(&format!("{shrunk}\n"));
+    Ok(())
+}
+
+fn check(words: &[&str]) -> Done {
+    let [file, answers] = exactly(words)?;
+    let checked = order::check(&read(file)?, &read(answers)?)?;
+    Ok(print(format!("{checked}\n").as_bytes())?)
 }
 
 fn tell_file(words: &[&str]) -> Done {
     match words {
-        [file] => tell_all(&read(file)?),
+        [file] => {
+            let (input, mut teller) = (read(file)?, tell::Teller::new());
+            Ok(print_all(raw_lines(&input).map(|raw| teller.take(raw)))?)
+        }
         [file, line] => {
             let line = number("LINE", line, 1, u64::MAX)?;
             Ok(print(tell::machine_after(&read(file)?, line as usize)?.as_bytes())?)
         }
-        _ => Err(Trouble::Misuse(format!("FILE, or FILE and LINE, are wanted and {} arguments given", words.len()))),
+        _ => misuse("FILE is wanted, and nothing else but a LINE"),
     }
-}
-
-/// Line by line, so that a long schedule is told while it runs.
-fn tell_all(input: &[u8]) -> Done {
-    let mut teller = tell::Teller::new();
-    let mut out = io::BufWriter::with_capacity(1 << 16, io::stdout().lock());
-    let told = tell::raw_lines(input).try_for_each(|raw| write!(out, "{}", teller.take(raw)));
-    Ok(quietly(told.and_then(|()| out.flush()))?)
 }
 
 /// The ending of OUT says what is drawn.
 fn draw_file(words: &[&str]) -> Done {
     let [file, out] = exactly(words)?;
-    let ending = Path::new(out).extension().and_then(|ending| ending.to_str());
-    let text = match ending {
+    let text = match Path::new(out).extension().and_then(|ending| ending.to_str()) {
         Some("svg") => draw::draw(&read(file)?)?,
         Some("html") => page::page(&title(file), &read(file)?)?,
-        _ => return Err(Trouble::Misuse(format!("OUT ends in .svg or .html, not so {out}"))),
+        _ => return misuse(format!("OUT ends in .svg or .html, not so {out}")),
     };
     Ok(write(out, &text)?)
 }
@@ -200,27 +142,27 @@ fn title(file: &str) -> String {
     Path::new(file).file_name().map_or(file.to_string(), |name| name.to_string_lossy().into_owned())
 }
 
-/// Compares batches of ever new seeds until the time is over.
-fn soak(words: &[&str]) -> Done {
-    const BATCH: u64 = 500;
-    let [minutes] = exactly(words)?;
-    let time = Duration::from_secs(60 * number("MINUTES", minutes, 1, 525_600)?);
-    let program = external::program()?;
-    let begin = Instant::now();
-    let (mut seed, mut lines, mut operations) = (0, 0, 0);
-    while begin.elapsed() < time {
-        let batch: Vec<Seeded> = (seed..seed + BATCH).map(soaked).collect();
-        let tally = compare_all(&program, &batch).map_err(|difference| difference.to_string())?;
-        seed += BATCH;
-        lines += tally.lines();
-        operations += tally.operations;
-    }
-    let last = format!("{seed} schedules, {lines} lines agree; {operations} operations in line\n");
-    Ok(print(last.as_bytes())?)
+/// An operation that is open and ours is a failure.
+fn explain(words: &[&str]) -> Done {
+    let [file] = exactly(words)?;
+    let told = why::why(&read(file)?);
+    print(told.text.as_bytes())?;
+    Ok(told.status()?)
 }
 
-/// Soak seeds start far from those of the tests; lengths vary with the seed.
-fn soaked(seed: u64) -> Seeded {
-    let seed = seed + 1_000_000;
-    Seeded { seed, input: schedule(seed, 50 + (seed * 7919 % 1500) as usize) }
+/// The seed is said first, so that the run can be repeated.
+fn soak_for(words: &[&str]) -> Done {
+    let (minutes, from) = match words {
+        [minutes] => (minutes, soak::any_seed()),
+        [minutes, from] => (minutes, seed(from)?),
+        _ => return misuse("MINUTES is wanted, and nothing else but a SEED"),
+    };
+    let minutes = number("MINUTES", minutes, 1, 525_600)?;
+    let program = external::program()?;
+    print(format!("seed {from}\n").as_bytes())?;
+    let time = Duration::from_secs(60 * minutes);
+    let compared = soak::soak(&program, from, time, |tally, left| rewrite(&soak::so_far(tally, left)));
+    rewrite("");
+    let tally = compared.map_err(|difference| difference.to_string())?;
+    Ok(print(format!("{}\n", soak::told(from, &tally, minutes)).as_bytes())?)
 }

@@ -17,8 +17,12 @@ pub fn program() -> Result<PathBuf, String> {
     places.into_iter().find(|path| path.is_file()).ok_or_else(missing)
 }
 
-/// What the program prints for an input.
-pub fn run(program: &Path, input: &[u8]) -> io::Result<Vec<u8>> {
+/// What the program prints for an input, or why it cannot be run.
+pub fn run(program: &Path, input: &[u8]) -> Result<Vec<u8>, String> {
+    answers(program, input).map_err(|error| format!("{} cannot be run: {error}", program.display()))
+}
+
+fn answers(program: &Path, input: &[u8]) -> io::Result<Vec<u8>> {
     let mut child = Command::new(program).stdin(Stdio::piped()).stdout(Stdio::piped()).spawn()?;
     let mut stdin = child.stdin.take().expect("stdin is piped");
     let mut stdout = child.stdout.take().expect("stdout is piped");

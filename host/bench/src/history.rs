@@ -1,8 +1,11 @@
 //! From lines and answers to operations.
 
+use crate::allowed::called;
+use crate::names;
+pub use crate::printed::Printed;
 use copy::answer::{DONE, READ_ENDED, WRITE_ENDED, WRITE_SPENT};
-use copy::line::{self, Call};
-use copy::Tag;
+use copy::line::Call;
+use copy::{Numbers, Tag};
 
 #[derive(Clone, Copy, PartialEq, Eq, Debug)]
 pub enum Kind {
@@ -25,75 +28,57 @@ pub struct Operation {
 }
 
 /// All between one accepted set-up and the next.
-#[derive(Clone, PartialEq, Eq, Debug, Default)]
+#[derive(Clone, PartialEq, Eq, Debug)]
 pub struct History {
+    pub numbers: Numbers,
     pub first_word: u32,
     pub operations: Vec<Operation>,
 }
 
-/// One printed line.
-#[derive(Clone, Copy, PartialEq, Eq, Debug)]
-pub struct Printed {
-    pub line: usize,
-    pub code: u32,
-    pub client: u32,
-    pub tag: Tag,
-    pub word: u32,
-}
-
-impl Printed {
-    pub fn parse(text: &[u8]) -> Option<Printed> {
-        let text = std::str::from_utf8(text).ok()?;
-        let mut fields = text.split(' ');
-        let mut field = || fields.next()?.parse::<u32>().ok();
-        let (line, code, client) = (field()? as usize, field()?, field()?);
-        let tag = Tag::new(field()?, field()?);
-        let word = field()?;
-        fields.next().is_none().then_some(Printed { line, code, client, tag, word })
-    }
-}
-
 /// Lines of a text; a last one without LF counts.
 pub fn lines(text: &[u8]) -> impl Iterator<Item = &[u8]> {
-    text.split_inclusive(|&byte| byte == b'\n').map(|line| line.strip_suffix(b"\n").unwrap_or(line))
+    raw_lines(text).map(|line| line.strip_suffix(b"\n").unwrap_or(line))
+}
+
+/// Lines of a text with their LF: one that has none is no whole line.
+pub fn raw_lines(text: &[u8]) -> impl Iterator<Item = &[u8]> {
+    text.split_inclusive(|&byte| byte == b'\n')
 }
 
 pub fn histories(input: &[u8], output: &[u8]) -> Result<Vec<History>, String> {
     let mut all = Vec::new();
-    let mut printed = lines(output);
-    for (index, line) in lines(input).enumerate() {
-        let number = index + 1;
-        let text = printed.next().ok_or(format!("line {number} has no answer"))?;
-        let answer = Printed::parse(text).filter(|answer| answer.line == number);
-        let answer = answer.ok_or(format!("line {number}: answer not readable: {}", String::from_utf8_lossy(text)))?;
+    let mut answers = raw_lines(output);
+    let mut number = 0;
+    for line in raw_lines(input) {
+        number += 1;
+        let raw = answers.next().ok_or_else(|| format!("line {number} has no answer"))?;
+        let answer = Printed::answer(number, raw)?;
         take(&mut all, line, answer).map_err(|why| format!("line {number}: {why}"))?;
     }
-    match printed.next() {
-        Some(_) => Err("more answers than lines".to_string()),
+    match answers.next() {
+        Some(_) => Err(format!("answer {} answers no line", number + 1)),
         None => Ok(all),
     }
 }
 
-fn take(all: &mut Vec<History>, line: &[u8], answer: Printed) -> Result<(), String> {
-    if answer.code > 15 {
+fn take(all: &mut Vec<History>, raw: &[u8], answer: Printed) -> Result<(), String> {
+    let machine = all.last().map(|history| &history.numbers);
+    let call = called(raw, machine, answer.code)?;
+    if let (Some(Call::SetUp { numbers, word }), DONE) = (call, answer.code) {
+        all.push(History { numbers, first_word: word, operations: Vec::new() });
         return Ok(());
     }
-    let call = line::parse(line).ok_or("a malformed line was accepted")?;
-    if let Call::SetUp { word, .. } = call {
-        all.push(History { first_word: word, operations: Vec::new() });
-        return Ok(());
-    }
-    let history = all.last_mut().ok_or("accepted before a set-up")?;
+    let Some(history) = all.last_mut() else { return Ok(()) };
     match (call, answer.code) {
-        (Call::Read { client }, DONE) => history.begin(client, Kind::Read, 0, answer.line),
-        (Call::Write { client, word }, DONE) => history.begin(client, Kind::Write, word, answer.line),
-        (Call::Deliver { .. }, READ_ENDED..=WRITE_SPENT) => history.end(answer),
-        (_, READ_ENDED..=WRITE_SPENT) => Err(format!("code {} at no delivery", answer.code)),
+        (Some(Call::Read { client }), DONE) => history.begin(client, Kind::Read, 0, answer.line),
+        (Some(Call::Write { client, word }), DONE) => history.begin(client, Kind::Write, word, answer.line),
+        (_, READ_ENDED..=WRITE_SPENT) => history.end(answer),
         _ => Ok(()),
     }
 }
 
 impl History {
+    /// The search is short: the numbers have 8 clients at most, and only they start.
     fn open(&mut self, client: u32) -> Option<&mut Operation> {
         let last = self.operations.iter_mut().rev().find(|operation| operation.client == client)?;
         last.end.is_none().then_some(last)
@@ -109,7 +94,10 @@ impl History {
 
     fn end(&mut self, answer: Printed) -> Result<(), String> {
         let client = answer.client;
-        let operation = self.open(client).ok_or(format!("client {client} ends what it did not start"))?;
+        if answer.tag.number > self.numbers.top {
+            return Err(format!("the tag {} is above top {}", names::tag(answer.tag), self.numbers.top));
+        }
+        let operation = self.open(client).ok_or_else(|| format!("client {client} ends what it did not start"))?;
         let kind = if answer.code == READ_ENDED { Kind::Read } else { Kind::Write };
         if operation.kind != kind {
             return Err(format!("client {client} ends another kind than it started"));

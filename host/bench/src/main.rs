@@ -1,10 +1,13 @@
 //! `bench`: makes, runs, compares, tells, draws and explains schedules.
 #![forbid(unsafe_code)]
 
+mod asking;
 mod commands;
+mod saying;
 
-use commands::{find, help, line_of, lines_of_all, Done, Trouble};
-use std::io::{self, Write};
+use asking::{misuse, Done, Trouble};
+use commands::{find, help, line_of, lines_of_all};
+use saying::note;
 use std::process::ExitCode;
 
 fn main() -> ExitCode {
@@ -16,7 +19,7 @@ fn main() -> ExitCode {
         [name, "--help" | "-h"] => outcome(help(&[name]), &lines_of_all()),
         [name, rest @ ..] => match find(name) {
             Some(command) => outcome((command.run)(rest), &line_of(command)),
-            None => outcome(Err(Trouble::Misuse(format!("there is no command {name}"))), &lines_of_all()),
+            None => outcome(misuse(format!("there is no command {name}")), &lines_of_all()),
         },
     }
 }
@@ -26,17 +29,12 @@ fn outcome(result: Done, usage: &str) -> ExitCode {
     match result {
         Ok(()) => ExitCode::SUCCESS,
         Err(Trouble::Failure(why)) => {
-            say(&format!("{why}\n"));
+            note(&format!("bench: {why}\n"));
             ExitCode::FAILURE
         }
         Err(Trouble::Misuse(why)) => {
-            say(&format!("{why}\n{usage}"));
+            note(&format!("bench: {why}\n{usage}"));
             ExitCode::from(2)
         }
     }
-}
-
-/// Where standard error fails too, the status is left to say it.
-fn say(text: &str) {
-    let _ = write!(io::stderr(), "bench: {text}");
 }

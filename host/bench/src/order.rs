@@ -1,17 +1,43 @@
 //! The line of operations: by tag, each write before the reads that show it.
 //! It holds if it keeps the order in time and every read shows the last write before it.
 
-use crate::history::{histories, History, Kind, Operation};
+use crate::history::{histories, lines, History, Kind, Operation};
+use crate::names;
+use crate::tally::counted;
 use copy::Tag;
 use std::collections::BTreeMap;
+use std::fmt;
 
-/// Checks every history of a schedule and gives back how many operations were set in line.
-pub fn check(input: &[u8], output: &[u8]) -> Result<usize, String> {
-    let mut count = 0;
-    for history in histories(input, output)? {
-        count += line_of(&history)?.len();
+/// What was found in order.
+#[derive(Clone, Copy, PartialEq, Eq, Debug)]
+pub struct Checked {
+    pub lines: usize,
+    pub set_ups: usize,
+    pub started: usize,
+    /// Finished operations and shown writes that were set in line.
+    pub in_line: usize,
+}
+
+impl fmt::Display for Checked {
+    fn fmt(&self, f: &mut fmt::Formatter<'_>) -> fmt::Result {
+        let lines = counted(self.lines as u64, "line");
+        let set_ups = counted(self.set_ups as u64, "set-up");
+        let in_line = counted(self.in_line as u64, "operation");
+        let one_line = if self.set_ups > 1 { "a line for each set-up" } else { "one line" };
+        write!(f, "{lines}: numbers, codes and fields are as listed; ")?;
+        write!(f, "{set_ups}; {in_line} in {one_line}, of {} started", self.started)
     }
-    Ok(count)
+}
+
+/// Checks every answer and every history of a schedule.
+pub fn check(input: &[u8], output: &[u8]) -> Result<Checked, String> {
+    let all = histories(input, output)?;
+    let mut checked = Checked { lines: lines(input).count(), set_ups: all.len(), started: 0, in_line: 0 };
+    for history in &all {
+        checked.started += history.operations.len();
+        checked.in_line += line_of(history)?.len();
+    }
+    Ok(checked)
 }
 
 /// The operations in one line, or why there is none.
@@ -28,45 +54,41 @@ fn tagged(history: &History) -> Result<Vec<Operation>, String> {
     let finished = history.operations.iter().filter(|operation| operation.tag.is_some());
     let mut line: Vec<Operation> = finished.copied().collect();
     let written = writes_by_tag(&line)?;
-    let mut shown = BTreeMap::new();
+    let open = open_writes(history);
+    let mut shown: BTreeMap<u32, Operation> = BTreeMap::new();
     for read in line.iter().filter(|operation| operation.kind == Kind::Read) {
         let tag = read.tag.unwrap_or_default();
-        if tag != Tag::FIRST && !written.contains_key(&tag) {
-            shown.insert(tag, unfinished(history, read, tag)?);
+        if tag == Tag::FIRST || written.contains_key(&tag) {
+            continue;
         }
-    }
-    let mut clients: Vec<u32> = shown.values().map(|write| write.client).collect();
-    clients.sort_unstable();
-    clients.dedup();
-    if clients.len() != shown.len() {
-        return Err("one unfinished write is shown under two tags".to_string());
+        let write = open.get(&tag.client).ok_or_else(|| format!("{} shows a tag that no write has", told(read)))?;
+        let before = shown.insert(tag.client, Operation { tag: read.tag, ..**write });
+        if before.is_some_and(|before| before.tag != read.tag) {
+            return Err(format!("{}: its unfinished write is shown under two tags", told(read)));
+        }
     }
     line.extend(shown.into_values());
     Ok(line)
 }
 
-fn writes_by_tag(line: &[Operation]) -> Result<BTreeMap<Tag, Operation>, String> {
+fn writes_by_tag(line: &[Operation]) -> Result<BTreeMap<Tag, &Operation>, String> {
     let mut written = BTreeMap::new();
     for write in line.iter().filter(|operation| operation.kind == Kind::Write) {
         let tag = write.tag.unwrap_or_default();
-        if tag == Tag::FIRST || tag.client != write.client {
-            return Err(format!("a write of client {} ended with tag {tag:?}", write.client));
+        if tag.client != write.client {
+            return Err(format!("{} ended with tag {}, which has another client", told(write), names::tag(tag)));
         }
-        if written.insert(tag, *write).is_some() {
-            return Err(format!("two writes have tag {tag:?}"));
+        if let Some(before) = written.insert(tag, write) {
+            return Err(format!("two writes have one tag: {} and {}", told(before), told(write)));
         }
     }
     Ok(written)
 }
 
-/// The write that a read must have seen before its end: the open one of the tag's client.
-fn unfinished(history: &History, read: &Operation, tag: Tag) -> Result<Operation, String> {
-    let open = |operation: &&Operation| {
-        operation.client == tag.client && operation.kind == Kind::Write && operation.end.is_none()
-    };
-    let write = history.operations.iter().find(open);
-    let write = write.ok_or(format!("{} shows a tag that no write has", told(read)))?;
-    Ok(Operation { tag: Some(tag), ..*write })
+/// The write that a read must have seen before the write's end: the open one of the tag's client.
+fn open_writes(history: &History) -> BTreeMap<u32, &Operation> {
+    let open = |operation: &&Operation| operation.kind == Kind::Write && operation.end.is_none();
+    history.operations.iter().filter(open).map(|write| (write.client, write)).collect()
 }
 
 /// No operation may stand behind one that started after its end.
@@ -102,5 +124,5 @@ pub fn told(operation: &Operation) -> String {
     let name = if operation.kind == Kind::Read { "read" } else { "write" };
     let Operation { client, word, start, tag, .. } = operation;
     let tag = tag.unwrap_or_default();
-    format!("{name} of client {client} from line {start} with ({},{}) {word}", tag.number, tag.client)
+    format!("{name} of client {client} from line {start} with {} {word}", names::tag(tag))
 }

@@ -2,10 +2,11 @@
 //! The page holds what each line changes in the words; its script does the changes in order.
 
 use crate::draw::picture;
+use crate::history::raw_lines;
 use crate::json;
 use crate::story::{story, Story};
 use crate::svg::escaped;
-use crate::tell::{raw_lines, Line, Teller};
+use crate::tell::{Line, Teller};
 use crate::words::{self, Sentence};
 use std::collections::HashMap;
 

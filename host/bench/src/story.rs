@@ -1,8 +1,7 @@
 //! What happened in a schedule, call by call: the matter of a picture.
 
-use crate::history::{histories, History};
+use crate::history::{histories, raw_lines, History};
 use crate::refused::Refused;
-use crate::tell::raw_lines;
 use crate::underway::{Arrow, Fate, Underway};
 use copy::answer::{BAD_ARGUMENT, DROPPED, SIZE, STALE};
 use copy::layout::{ends, Party};

@@ -44,3 +44,8 @@ impl fmt::Display for Tally {
         used.into_iter().try_for_each(|(code, count)| write!(f, " {code}:{count}"))
     }
 }
+
+/// "1 line", "2 lines".
+pub fn counted(count: u64, what: &str) -> String {
+    format!("{count} {what}{}", if count == 1 { "" } else { "s" })
+}

@@ -1,5 +1,6 @@
 //! A schedule told line by line: what was asked, what came of it, and which rows moved.
 
+use crate::history::raw_lines;
 use crate::meaning::{malformed, meaning};
 use crate::names::line_text;
 use crate::view;
@@ -96,11 +97,6 @@ fn in_words(m: &Words) -> String {
         return "no set-up has been accepted yet\n".to_string();
     }
     sentences.iter().map(|sentence| sentence.told() + "\n").collect()
-}
-
-/// Lines with their LF, if they have one.
-pub fn raw_lines(input: &[u8]) -> impl Iterator<Item = &[u8]> {
-    input.split_inclusive(|&byte| byte == b'\n')
 }
 
 fn details(before: &Words, after: &Words, call: Call) -> Vec<String> {

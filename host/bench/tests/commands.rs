@@ -56,7 +56,7 @@ fn listed() -> Vec<(String, Vec<String>)> {
 
 /// Arguments that are right but for the files' names.
 fn right<'a>(arguments: &[String], path: &'a str) -> Vec<&'a str> {
-    let wanted = arguments.iter().filter(|name| !name.starts_with('['));
+    let wanted = arguments.iter().filter(|name| !name.starts_with('[') && !name.ends_with(']'));
     wanted.map(|name| if name.starts_with("OUT") { "/nowhere/at/all.svg" } else { path }).collect()
 }
 

@@ -1,9 +1,10 @@
 //! The copy of the rules against the program under test, on a million lines and more.
 
-use bench::compare::{compare_all, Seeded};
+use bench::compare::{compare_all, compare_one, Seeded};
+use bench::history::lines;
 use bench::tally::Tally;
 use bench::{cold_schedule, compare, external, schedule, Difference};
-use std::path::PathBuf;
+use std::path::{Path, PathBuf};
 
 fn program() -> PathBuf {
     external::program().unwrap_or_else(|why| panic!("{why}"))
@@ -61,4 +62,49 @@ fn odd_inputs() {
     for input in inputs {
         agreed(compare_all(&program, &[Seeded { seed: 0, input: input.to_vec() }]));
     }
+}
+
+#[test]
+fn one_file() {
+    assert_eq!(compare_one(&program(), &schedule(4, 700)), Ok(700));
+    assert_eq!(compare_one(&program(), b"R 1"), Ok(1));
+}
+
+/// `cat` answers a malformed line rightly where it is its own answer; `true` answers nothing.
+#[test]
+fn the_first_line_that_differs() {
+    let told = |program, input: &[u8]| compare_one(Path::new(program), input);
+    let right = b"1 18 0 0 0 0\n2 18 0 0 0 0\n";
+    assert_eq!(told("cat", right), Ok(2));
+    assert_eq!(
+        told("cat", &[&right[..], b"R 1\nR 2\n"].concat()),
+        Err("line 3, \"R 1\": the copy prints \"3 17 0 0 0 0\", the program \"R 1\"".to_string())
+    );
+    assert_eq!(
+        told("cat", b"1 18 0 0 0 0"),
+        Err("line 1, \"1 18 0 0 0 0\": the copy prints \"1 18 0 0 0 0\", the program \"1 18 0 0 0 0\" without its LF"
+            .to_string())
+    );
+    assert_eq!(
+        told("true", b"\xff\n"),
+        Err("line 1, \"\\xff\": the copy prints \"1 18 0 0 0 0\", the program nothing".to_string())
+    );
+    assert_eq!(
+        told("env", b"").map_err(|why| why.split(", the program").next().unwrap_or_default().to_string()),
+        Err("line 1, which is none: the copy prints nothing".to_string())
+    );
+    let missing = told("./no-such-program", right).expect_err("no program");
+    assert!(missing.starts_with("./no-such-program cannot be run: "), "{missing}");
+}
+
+/// A difference names its seed and comes with a small schedule.
+#[test]
+fn a_difference_is_made_short() {
+    let batch: Vec<Seeded> = (7..10).map(|seed| Seeded { seed, input: schedule(seed, 40) }).collect();
+    let difference = compare_all(Path::new("cat"), &batch).expect_err("cat is no rehearsal");
+    assert_eq!(difference.seed, 7);
+    assert_eq!(lines(&difference.shortest).count(), 1);
+    let text = difference.to_string();
+    assert!(text.starts_with("seed 7: line 1, \"S "), "{text}");
+    assert!(text.contains("\nshortest schedule found (1 line):\nS "), "{text}");
 }

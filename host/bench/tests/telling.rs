@@ -1,10 +1,10 @@
 //! `tell`: every sentence that it has, and that what it says is so.
 
 use bench::compare::copy_output;
-use bench::history::{lines, Printed};
+use bench::history::{lines, raw_lines, Printed};
 use bench::newest::newest;
 use bench::schedule;
-use bench::tell::{machine_after, raw_lines, Line, Teller};
+use bench::tell::{machine_after, Line, Teller};
 use copy::line::{parse, Call};
 use copy::{Numbers, Tag, Words};
 

@@ -1,9 +1,10 @@
 //! The page: all lines in its data, nothing from outside, and no line that breaks out of it.
 
 use super::matter::{all_sorts, mixed, ODD};
+use bench::history::raw_lines;
 use bench::json;
 use bench::page::{changes, page, MOST_LINES};
-use bench::tell::{raw_lines, Teller};
+use bench::tell::Teller;
 use bench::words::{machine, Sentence};
 
 const BEGIN: &str = "<script id=\"schedule\" type=\"application/json\">";

@@ -1,0 +1,62 @@
+//! Which codes a line can get: by its text and the set-up in force, without running it.
+
+use crate::names;
+use copy::answer::*;
+use copy::layout::SLOTS;
+use copy::line::{parse, Call};
+use copy::numbers::within;
+use copy::Numbers;
+
+/// The call of a line, given with its LF, that got this code; a malformed line makes none.
+/// `machine` has the numbers of the last accepted set-up.
+pub fn called(raw: &[u8], machine: Option<&Numbers>, code: u32) -> Result<Option<Call>, String> {
+    let call = raw.strip_suffix(b"\n").and_then(parse);
+    let text = || names::line_text(raw.strip_suffix(b"\n").unwrap_or(raw));
+    match decided(raw, call, machine) {
+        Some((owed, why)) if owed != code => {
+            Err(format!("\"{}\" {why}, which is {}, not {}", text(), names::code(owed), names::code(code)))
+        }
+        None if call.is_some_and(|call| !possible(call).contains(&code)) => {
+            Err(format!("\"{}\" cannot get {}", text(), names::code(code)))
+        }
+        _ => Ok(call),
+    }
+}
+
+/// The code that is known from the numbers alone, and why.
+fn decided(raw: &[u8], call: Option<Call>, machine: Option<&Numbers>) -> Option<(u32, &'static str)> {
+    match (call, machine) {
+        (None, _) if !raw.ends_with(b"\n") => Some((BAD_ARGUMENT, "has no LF at its end")),
+        (None, _) => Some((BAD_ARGUMENT, "is malformed")),
+        (Some(Call::SetUp { numbers, .. }), _) if numbers.in_range() => Some((DONE, "has its numbers in range")),
+        (Some(Call::SetUp { .. }), _) => Some((BAD_ARGUMENT, "has numbers out of range")),
+        (Some(_), None) => Some((BAD_MACHINE, "stands before the first accepted set-up")),
+        (Some(call), Some(n)) if !in_range(call, n) => Some((BAD_ARGUMENT, "has a number out of range")),
+        _ => None,
+    }
+}
+
+fn in_range(call: Call, n: &Numbers) -> bool {
+    match call {
+        Call::SetUp { numbers, .. } => numbers.in_range(),
+        Call::Read { client } | Call::Write { client, .. } => within(client, n.nc),
+        Call::Deliver { slot } => within(slot, SLOTS as u32),
+        Call::Gossip { from, to } => within(from, n.nr) && within(to, n.nr) && from != to,
+        Call::Tidy { replica } => within(replica, n.nr),
+        Call::Crash { kind, id } => {
+            [n.nc, n.nd, n.nr].get((kind as usize).wrapping_sub(1)).is_some_and(|&n| within(id, n))
+        }
+    }
+}
+
+/// The codes of a call whose numbers are in range, after a set-up: no machine that is reached
+/// is bad, and SIZE never comes, since the program's buffer and page are right.
+fn possible(call: Call) -> &'static [u32] {
+    match call {
+        Call::SetUp { .. } => &[DONE],
+        Call::Read { .. } | Call::Write { .. } => &[DONE, DOWN, BUSY, WORN, NO_SLOT],
+        Call::Deliver { .. } => &[DONE, READ_ENDED, WRITE_ENDED, WRITE_SPENT, DROPPED, STALE, EMPTY, FULL, NO_SLOT],
+        Call::Gossip { .. } => &[DONE, DOWN, NO_SLOT],
+        Call::Tidy { .. } | Call::Crash { .. } => &[DONE, DOWN],
+    }
+}

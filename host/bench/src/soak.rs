@@ -1,0 +1,57 @@
+//! The comparison on ever new schedules, for as long as is wanted.
+
+use crate::compare::{compare_all, Difference, Seeded};
+use crate::schedule::schedule;
+use crate::tally::{counted, Tally};
+use std::collections::hash_map::RandomState;
+use std::hash::{BuildHasher, Hasher};
+use std::path::Path;
+use std::time::{Duration, Instant};
+
+/// Schedules in one run of the program.
+pub const BATCH: u64 = 100;
+
+/// Compares batch after batch until the time is over, and one batch in any case. `progress`
+/// hears after each batch what was compared so far, and how much time is left.
+pub fn soak(
+    program: &Path,
+    seed: u64,
+    time: Duration,
+    mut progress: impl FnMut(&Tally, Duration),
+) -> Result<Tally, Difference> {
+    let begin = Instant::now();
+    let mut total = Tally::default();
+    loop {
+        let batch: Vec<Seeded> = (0..BATCH).map(|at| soaked(seed.wrapping_add(total.schedules + at))).collect();
+        total.join(&compare_all(program, &batch)?);
+        let left = time.saturating_sub(begin.elapsed());
+        progress(&total, left);
+        if left.is_zero() {
+            return Ok(total);
+        }
+    }
+}
+
+/// The schedule of a seed; lengths vary with it.
+pub fn soaked(seed: u64) -> Seeded {
+    Seeded { seed, input: schedule(seed, 50 + (seed.wrapping_mul(7919) % 1500) as usize) }
+}
+
+/// Another seed each time: the standard library's hashers have random keys.
+pub fn any_seed() -> u64 {
+    RandomState::new().build_hasher().finish()
+}
+
+/// What is so far, on a line for a terminal.
+pub fn so_far(tally: &Tally, left: Duration) -> String {
+    let Tally { schedules, operations, .. } = tally;
+    let minutes = counted(left.as_secs().div_ceil(60), "minute");
+    format!("{schedules} schedules, {} lines, {operations} operations; {minutes} left", tally.lines())
+}
+
+/// The last line, for a log.
+pub fn told(seed: u64, tally: &Tally, minutes: u64) -> String {
+    let Tally { schedules, operations, .. } = tally;
+    let (lines, minutes) = (tally.lines(), counted(minutes, "minute"));
+    format!("seed {seed}: {schedules} schedules, {lines} lines agree; {operations} operations in line; {minutes}")
+}
