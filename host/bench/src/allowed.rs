@@ -1,6 +1,7 @@
 //! Which codes a line can get: by its text and the set-up in force, without running it.
 
 use crate::names;
+use crate::view;
 use copy::answer::*;
 use copy::layout::SLOTS;
 use copy::line::{parse, Call};
@@ -43,9 +44,7 @@ fn in_range(call: Call, n: &Numbers) -> bool {
         Call::Deliver { slot } => within(slot, SLOTS as u32),
         Call::Gossip { from, to } => within(from, n.nr) && within(to, n.nr) && from != to,
         Call::Tidy { replica } => within(replica, n.nr),
-        Call::Crash { kind, id } => {
-            [n.nc, n.nd, n.nr].get((kind as usize).wrapping_sub(1)).is_some_and(|&n| within(id, n))
-        }
+        Call::Crash { kind, id } => view::party_of(kind).is_some_and(|party| within(id, view::count_of(party, n))),
     }
 }
 

@@ -8,7 +8,7 @@ use bench::history::raw_lines;
 use bench::tally::counted;
 use bench::{draw, external, night, order, page, schedule, shrink, soak, tell, why};
 use std::path::Path;
-use std::time::Duration;
+use std::time::{Duration, Instant};
 
 pub struct Command {
     name: &'static str,
@@ -160,8 +160,12 @@ fn soak_for(words: &[&str]) -> Done {
     let minutes = number("MINUTES", minutes, 1, 525_600)?;
     let program = external::program()?;
     print(format!("seed {from}\n").as_bytes())?;
-    let time = Duration::from_secs(60 * minutes);
-    let compared = soak::soak(&program, from, time, |tally, left| rewrite(&soak::so_far(tally, left)));
+    let (begin, time) = (Instant::now(), Duration::from_secs(60 * minutes));
+    let compared = soak::soak(&program, from, |tally| {
+        let left = time.saturating_sub(begin.elapsed());
+        rewrite(&soak::so_far(tally, left));
+        !left.is_zero()
+    });
     rewrite("");
     let tally = compared.map_err(|difference| difference.to_string())?;
     Ok(print(format!("{}\n", soak::told(from, &tally, minutes)).as_bytes())?)

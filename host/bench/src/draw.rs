@@ -7,6 +7,7 @@ use crate::rows::{fitting, moment, Rows, PER_ROW, WIDTH};
 use crate::story::{story, Mark, Story};
 use crate::svg::Svg;
 use crate::underway::Fate;
+use crate::view;
 use crate::words;
 use copy::layout::Party;
 use copy::Numbers;
@@ -121,7 +122,7 @@ impl<'a> Picture<'a> {
     fn lane(&mut self, party: Party, id: u32) {
         let story = self.story;
         let mut named = None;
-        for machine in story.machines.iter().filter(|one| id <= count(&one.numbers, party)) {
+        for machine in story.machines.iter().filter(|one| id <= view::count_of(party, &one.numbers)) {
             let height = self.rows.height_of(party, id);
             let end = story.end_of(machine.column) as f64;
             for piece in self.rows.pieces((moment(machine.column), height), (end, height)) {
@@ -188,14 +189,6 @@ fn head(story: &Story, column: usize) -> String {
     let call = &story.calls[column];
     let text = if is_set_up(story, column) { "set-up" } else { &call.text };
     format!("{} {text}", call.line)
-}
-
-fn count(n: &Numbers, party: Party) -> u32 {
-    match party {
-        Party::Client => n.nc,
-        Party::Directory => n.nd,
-        Party::Replica => n.nr,
-    }
 }
 
 pub fn bar_text(operation: &Operation) -> String {

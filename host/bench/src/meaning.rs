@@ -103,10 +103,7 @@ fn asked_party(call: Call) -> String {
         Call::Read { client } | Call::Write { client, .. } => format!("client {client}"),
         Call::Gossip { from, .. } => format!("replica {from}"),
         Call::Tidy { replica } => format!("replica {replica}"),
-        Call::Crash { kind, id } => {
-            let party = [Party::Client, Party::Directory, Party::Replica].get(kind as usize - 1);
-            format!("{} {id}", party.map_or("party", |party| party_name(*party)))
-        }
+        Call::Crash { kind, id } => format!("{} {id}", view::party_of(kind).map_or("party", party_name)),
         Call::SetUp { .. } | Call::Deliver { .. } => "nobody".to_string(),
     }
 }
@@ -119,19 +116,20 @@ fn doing(m: &Words, call: Call) -> &'static str {
 }
 
 fn bad_argument(n: &Numbers, call: Call) -> String {
-    let missing = |party, id, count| format!("there is no {} {id}: they are 1 to {count}", party_name(party));
+    let missing =
+        |party, id| format!("there is no {} {id}: they are 1 to {}", party_name(party), view::count_of(party, n));
     match call {
         Call::SetUp { numbers, .. } => out_of_range(&numbers).to_string(),
-        Call::Read { client } | Call::Write { client, .. } => missing(Party::Client, client, n.nc),
+        Call::Read { client } | Call::Write { client, .. } => missing(Party::Client, client),
         Call::Deliver { slot } => format!("there is no slot {slot}: they are 1 to {SLOTS}"),
-        Call::Gossip { from, .. } if !within(from, n.nr) => missing(Party::Replica, from, n.nr),
+        Call::Gossip { from, .. } if !within(from, n.nr) => missing(Party::Replica, from),
         Call::Gossip { from, to } if from == to => "a replica does not gossip to itself".to_string(),
-        Call::Gossip { to, .. } => missing(Party::Replica, to, n.nr),
-        Call::Tidy { replica } => missing(Party::Replica, replica, n.nr),
-        Call::Crash { kind: 1, id } => missing(Party::Client, id, n.nc),
-        Call::Crash { kind: 2, id } => missing(Party::Directory, id, n.nd),
-        Call::Crash { kind: 3, id } => missing(Party::Replica, id, n.nr),
-        Call::Crash { kind, .. } => format!("there is no kind {kind}: 1 client, 2 directory, 3 replica"),
+        Call::Gossip { to, .. } => missing(Party::Replica, to),
+        Call::Tidy { replica } => missing(Party::Replica, replica),
+        Call::Crash { kind, id } => match view::party_of(kind) {
+            Some(party) => missing(party, id),
+            None => format!("there is no kind {kind}: 1 client, 2 directory, 3 replica"),
+        },
     }
 }
 

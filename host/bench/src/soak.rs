@@ -6,27 +6,18 @@ use crate::tally::{counted, Tally};
 use std::collections::hash_map::RandomState;
 use std::hash::{BuildHasher, Hasher};
 use std::path::Path;
-use std::time::{Duration, Instant};
+use std::time::Duration;
 
 /// Schedules in one run of the program.
 pub const BATCH: u64 = 100;
 
-/// Compares batch after batch until the time is over, and one batch in any case. `progress`
-/// hears after each batch what was compared so far, and how much time is left.
-pub fn soak(
-    program: &Path,
-    seed: u64,
-    time: Duration,
-    mut progress: impl FnMut(&Tally, Duration),
-) -> Result<Tally, Difference> {
-    let begin = Instant::now();
+/// Compares one batch, and then batch after batch while `goes_on` says so of what was compared.
+pub fn soak(program: &Path, seed: u64, mut goes_on: impl FnMut(&Tally) -> bool) -> Result<Tally, Difference> {
     let mut total = Tally::default();
     loop {
         let batch: Vec<Seeded> = (0..BATCH).map(|at| soaked(seed.wrapping_add(total.schedules + at))).collect();
         total.join(&compare_all(program, &batch)?);
-        let left = time.saturating_sub(begin.elapsed());
-        progress(&total, left);
-        if left.is_zero() {
+        if !goes_on(&total) {
             return Ok(total);
         }
     }

@@ -3,6 +3,7 @@
 use crate::history::{histories, raw_lines, History};
 use crate::refused::Refused;
 use crate::underway::{Arrow, Fate, Underway};
+use crate::view;
 use copy::answer::{BAD_ARGUMENT, DROPPED, SIZE, STALE};
 use copy::layout::{ends, Party};
 use copy::line::{parse, Call};
@@ -98,8 +99,7 @@ impl Story {
             }
             Call::Tidy { replica } => self.tidied.push(Mark { party: Party::Replica, id: replica, column }),
             Call::Crash { kind, id } => {
-                let party = [Party::Client, Party::Directory, Party::Replica][kind as usize - 1];
-                self.crashes.push(Mark { party, id, column });
+                self.crashes.extend(view::party_of(kind).map(|party| Mark { party, id, column }));
             }
             _ => (),
         }

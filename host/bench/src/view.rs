@@ -48,3 +48,22 @@ pub fn touches(message: &Message, directories: u32, replicas: u32) -> bool {
     };
     hit(from, message.from) || hit(to, message.to)
 }
+
+/// Which party a crash names: 1 client, 2 directory, 3 replica.
+pub fn party_of(kind: u32) -> Option<Party> {
+    match kind {
+        1 => Some(Party::Client),
+        2 => Some(Party::Directory),
+        3 => Some(Party::Replica),
+        _ => None,
+    }
+}
+
+/// How many parties of a sort a machine has.
+pub fn count_of(party: Party, n: &Numbers) -> u32 {
+    match party {
+        Party::Client => n.nc,
+        Party::Directory => n.nd,
+        Party::Replica => n.nr,
+    }
+}

@@ -1,15 +1,18 @@
-//! A soak can be repeated by its seed, and ends when its time is over.
+//! A soak can be repeated by its seed, and goes on as long as it is told to.
 
 use bench::external;
 use bench::soak::{any_seed, so_far, soak, soaked, told, BATCH};
 use bench::tally::Tally;
 use bench::{schedule, Difference};
-use std::path::Path;
+use std::path::{Path, PathBuf};
 use std::time::Duration;
 
+fn program() -> PathBuf {
+    external::program().unwrap_or_else(|why| panic!("{why}"))
+}
+
 fn once(seed: u64) -> Tally {
-    let program = external::program().unwrap_or_else(|why| panic!("{why}"));
-    soak(&program, seed, Duration::ZERO, |_, _| ()).unwrap_or_else(|difference| panic!("{difference}"))
+    soak(&program(), seed, |_| false).unwrap_or_else(|difference| panic!("{difference}"))
 }
 
 #[test]
@@ -39,25 +42,23 @@ fn seeds_of_their_own() {
 
 /// Each batch is told of; schedules of later batches follow those of the first.
 #[test]
-fn progress_until_the_time_is_over() {
-    let program = external::program().unwrap_or_else(|why| panic!("{why}"));
-    let time = Duration::from_millis(1500);
+fn batch_after_batch() {
     let mut heard = Vec::new();
-    let total = soak(&program, 5, time, |tally, left| heard.push((*tally, left))).unwrap_or_else(|why| panic!("{why}"));
-    assert!(heard.len() > 1, "one batch took {time:?}");
+    let total = soak(&program(), 5, |tally| {
+        heard.push(*tally);
+        heard.len() < 3
+    });
     let mut expected = Tally::default();
-    for (batch, (tally, left)) in heard.iter().enumerate() {
+    for (batch, tally) in heard.iter().enumerate() {
         expected.join(&once(5 + batch as u64 * BATCH));
         assert_eq!(*tally, expected);
-        assert_eq!(left.is_zero(), batch + 1 == heard.len());
     }
-    assert_eq!(total, expected);
+    assert_eq!((heard.len(), total), (3, Ok(expected)));
 }
 
 #[test]
 fn a_difference_ends_it() {
-    let Difference { seed, shortest, .. } =
-        soak(Path::new("cat"), 40, Duration::from_secs(3600), |_, _| ()).expect_err("cat is no rehearsal");
+    let Difference { seed, shortest, .. } = soak(Path::new("cat"), 40, |_| true).expect_err("cat is no rehearsal");
     assert_eq!((seed, shortest.starts_with(b"S ")), (40, true));
 }
 

@@ -131,13 +131,11 @@ fn many_refused_lines_stay_small() {
     assert!(svg.contains("lines 2 to 1000001: 600000 times 18 BAD ARGUMENT, 400000 times 22 EMPTY"));
 }
 
-/// Work grows with the lines and no faster: twenty thousand lines are a matter of a second.
+/// A picture grows with the lines and no faster.
 #[test]
 fn long_schedules_are_drawn() {
-    let began = std::time::Instant::now();
-    let svg = draw(&mixed(7, 20_000, 50)).expect("a picture");
-    assert!(began.elapsed().as_secs() < 10, "{:?}", began.elapsed());
-    assert!(svg.len() < 40_000_000);
+    let size = |lines| draw(&mixed(7, lines, 50)).expect("a picture").len();
+    assert!(size(20_000) < 12 * size(2_000), "{} {}", size(20_000), size(2_000));
 }
 
 #[test]
