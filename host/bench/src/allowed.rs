@@ -1,11 +1,9 @@
 //! Which codes a line can get: by its text and the set-up in force, without running it.
 
+use crate::meaning::bad_argument;
 use crate::names;
-use crate::view;
 use copy::answer::*;
-use copy::layout::SLOTS;
 use copy::line::{parse, Call};
-use copy::numbers::within;
 use copy::Numbers;
 
 /// The call of a line, given with its LF, that got this code; a malformed line makes none.
@@ -32,19 +30,8 @@ fn decided(raw: &[u8], call: Option<Call>, machine: Option<&Numbers>) -> Option<
         (Some(Call::SetUp { numbers, .. }), _) if numbers.in_range() => Some((DONE, "has its numbers in range")),
         (Some(Call::SetUp { .. }), _) => Some((BAD_ARGUMENT, "has numbers out of range")),
         (Some(_), None) => Some((BAD_MACHINE, "stands before the first accepted set-up")),
-        (Some(call), Some(n)) if !in_range(call, n) => Some((BAD_ARGUMENT, "has a number out of range")),
+        (Some(call), Some(n)) if bad_argument(n, call).is_some() => Some((BAD_ARGUMENT, "has a number out of range")),
         _ => None,
-    }
-}
-
-fn in_range(call: Call, n: &Numbers) -> bool {
-    match call {
-        Call::SetUp { numbers, .. } => numbers.in_range(),
-        Call::Read { client } | Call::Write { client, .. } => within(client, n.nc),
-        Call::Deliver { slot } => within(slot, SLOTS as u32),
-        Call::Gossip { from, to } => within(from, n.nr) && within(to, n.nr) && from != to,
-        Call::Tidy { replica } => within(replica, n.nr),
-        Call::Crash { kind, id } => view::party_of(kind).is_some_and(|party| within(id, view::count_of(party, n))),
     }
 }
 

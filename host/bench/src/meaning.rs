@@ -22,7 +22,7 @@ pub fn meaning(m: &Words, call: Call, shown: &Shown) -> String {
         STALE => delivered(m, call, |message| stale(&Client::read(m, message.to), message)),
         SIZE => "the buffer or the page has the wrong length".to_string(),
         BAD_MACHINE => "no set-up has been accepted yet".to_string(),
-        BAD_ARGUMENT => bad_argument(&Numbers::read(m), call),
+        BAD_ARGUMENT => bad_argument(&Numbers::read(m), call).unwrap_or_default(),
         DOWN => format!("{} is down", asked_party(call)),
         BUSY => format!("{} is not idle: {}", asked_party(call), doing(m, call)),
         WORN => format!("{} has fewer than three message numbers left", asked_party(call)),
@@ -115,41 +115,41 @@ fn doing(m: &Words, call: Call) -> &'static str {
     }
 }
 
-fn bad_argument(n: &Numbers, call: Call) -> String {
-    let missing =
-        |party, id| format!("there is no {} {id}: they are 1 to {}", party_name(party), view::count_of(party, n));
+/// What is out of range in a call on a machine of these numbers, if anything is.
+pub fn bad_argument(n: &Numbers, call: Call) -> Option<String> {
+    let missing = |party, id| {
+        let count = view::count_of(party, n);
+        (!within(id, count)).then(|| format!("there is no {} {id}: they are 1 to {count}", party_name(party)))
+    };
+    let itself = |from, to| (from == to).then(|| "a replica does not gossip to itself".to_string());
     match call {
-        Call::SetUp { numbers, .. } => out_of_range(&numbers).to_string(),
+        Call::SetUp { numbers, .. } => out_of_range(&numbers).map(String::from),
         Call::Read { client } | Call::Write { client, .. } => missing(Party::Client, client),
-        Call::Deliver { slot } => format!("there is no slot {slot}: they are 1 to {SLOTS}"),
-        Call::Gossip { from, .. } if !within(from, n.nr) => missing(Party::Replica, from),
-        Call::Gossip { from, to } if from == to => "a replica does not gossip to itself".to_string(),
-        Call::Gossip { to, .. } => missing(Party::Replica, to),
+        Call::Deliver { slot } if within(slot, SLOTS as u32) => None,
+        Call::Deliver { slot } => Some(format!("there is no slot {slot}: they are 1 to {SLOTS}")),
+        Call::Gossip { from, to } => missing(Party::Replica, from).or(missing(Party::Replica, to)).or(itself(from, to)),
         Call::Tidy { replica } => missing(Party::Replica, replica),
         Call::Crash { kind, id } => match view::party_of(kind) {
             Some(party) => missing(party, id),
-            None => format!("there is no kind {kind}: 1 client, 2 directory, 3 replica"),
+            None => Some(format!("there is no kind {kind}: 1 client, 2 directory, 3 replica")),
         },
     }
 }
 
 /// The first rule of the table of ranges that a set-up breaks.
-fn out_of_range(n: &Numbers) -> &'static str {
+fn out_of_range(n: &Numbers) -> Option<&'static str> {
     let rules = [
         (within(n.nc, CLIENTS as u32), "clients are 1 to 8"),
         (within(n.nd, DIRECTORIES as u32), "directories are 1 to 5"),
         (within(n.nr, REPLICAS as u32), "replicas are 1 to 7"),
         (n.f <= 3, "f is 0 to 3"),
-        (n.f > 3 || 2 * n.f < n.nr, "2f + 1 is more than the replicas"),
+        (n.f.saturating_mul(2) < n.nr, "2f + 1 is more than the replicas"),
         (within(n.rq, n.nd), "the read quorum is 1 to the number of directories"),
         (within(n.wq, n.nd), "the write quorum is 1 to the number of directories"),
-        (
-            n.rq > n.nd || n.wq > n.nd || n.rq + n.wq > n.nd,
-            "read and write quorum together are not more than the directories",
-        ),
+        (n.rq.saturating_add(n.wq) > n.nd, "read and write quorum together are not more than the directories"),
         (n.top >= 3, "top is 3 or more"),
     ];
-    rules.into_iter().find(|(kept, _)| !kept).map_or("", |(_, rule)| rule)
+    rules.into_iter().find(|(kept, _)| !kept).map(|(_, rule)| rule)
 }
 
 fn no_slot(m: &Words, call: Call) -> String {

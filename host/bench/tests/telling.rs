@@ -2,9 +2,10 @@
 
 use bench::compare::copy_output;
 use bench::history::{lines, raw_lines, Printed};
+use bench::meaning::bad_argument;
 use bench::newest::newest;
-use bench::schedule;
 use bench::tell::{machine_after, Line, Teller};
+use bench::{cold_schedule, schedule};
 use copy::line::{parse, Call};
 use copy::{Numbers, Tag, Words};
 
@@ -103,10 +104,29 @@ fn numbers_out_of_range() {
         ("S 1 1 2 1 1 1 6 7", "2f + 1 is more than the replicas"),
         ("S 1 1 1 0 2 1 6 7", "the read quorum is 1 to the number of directories"),
         ("S 1 1 1 0 1 0 6 7", "the write quorum is 1 to the number of directories"),
+        ("S 1 4294967295 1 0 4294967295 4294967295 6 7", "directories are 1 to 5"),
         ("S 1 3 1 0 1 2 6 7", "read and write quorum together are not more than the directories"),
         ("S 1 1 1 0 1 1 2 7", "top is 3 or more"),
     ] {
         means(&format!("{SMALL}{line}\n"), &format!("18 BAD ARGUMENT: {why}"));
+    }
+}
+
+/// A set-up is told to be out of range exactly where it is.
+#[test]
+fn set_ups_out_of_range() {
+    let none = Numbers { nc: 0, nd: 0, nr: 0, f: 0, rq: 0, wq: 0, top: 0 };
+    let few = |most: u32| (0..=most).chain([u32::MAX]);
+    let tops = [0, 2, 3, u32::MAX];
+    for (nd, rq, wq) in few(6).flat_map(|nd| few(6).flat_map(move |rq| few(6).map(move |wq| (nd, rq, wq)))) {
+        for (nc, nr, f, top) in few(9)
+            .zip(tops.repeat(3))
+            .flat_map(|(nc, top)| few(8).flat_map(move |nr| few(4).map(move |f| (nc, nr, f, top))))
+        {
+            let numbers = Numbers { nc, nd, nr, f, rq, wq, top };
+            let told = bad_argument(&none, Call::SetUp { numbers, word: 7 });
+            assert_eq!(told.is_none(), numbers.in_range(), "{numbers:?}");
+        }
     }
 }
 
@@ -232,5 +252,18 @@ fn all_sorts_of_schedule() {
             before = newest;
         }
         assert!(Numbers::read(teller.words()).in_range());
+    }
+}
+
+/// Lines before the first set-up, odd ones, and a last one without its end.
+#[test]
+fn from_the_zero_words() {
+    for seed in 0..300 {
+        let input = cold_schedule(seed, 60);
+        let output = copy_output(&input);
+        let answers: Vec<u32> = lines(&output).filter_map(Printed::parse).map(|answer| answer.code).collect();
+        let codes: Vec<u32> = told(&input).iter().map(|line| line.code).collect();
+        assert_eq!(codes, answers, "seed {seed}");
+        assert!(machine_after(&input, codes.len()).is_ok());
     }
 }
