@@ -42,6 +42,7 @@ pub fn seed(text: &str) -> Result<u64, Trouble> {
 }
 
 pub fn listed_code(text: &str) -> Result<u32, Trouble> {
+    let listed = || names::CODES.map(|(code, _)| code.to_string()).join(", ");
     let code = text.parse().ok().filter(|&code| names::code_name(code).is_some());
-    code.map_or_else(|| misuse(format!("CODE is a listed code, 0 to 5 or 16 to 24, not {text}")), Ok)
+    code.map_or_else(|| misuse(format!("CODE is one of {}, not {text}", listed())), Ok)
 }

@@ -105,7 +105,7 @@ fn details(before: &Words, after: &Words, call: Call) -> Vec<String> {
     }
     let slot = if let Call::Deliver { slot } = call { slot } else { 0 };
     let arrived = arrived(before, call).map(|message| format!("delivered: {message}"));
-    arrived.into_iter().chain(rows(before, after)).chain(sent(before, after, slot)).collect()
+    arrived.into_iter().chain(rows(before, after)).chain(mail(before, after, slot)).collect()
 }
 
 /// The message that a delivery is about.
@@ -143,29 +143,34 @@ fn words_of(m: &Words, party: Party, id: u32) -> (u32, &[u32]) {
     (m[down_at(party, id)], &m[at..at + length])
 }
 
-/// Messages that were not there; those that differ in the receiver alone are told together.
-fn sent(before: &Words, after: &Words, delivered: u32) -> Vec<String> {
+/// Messages that are gone but for the delivered one, and messages that were not there.
+pub fn mail(before: &Words, after: &Words, delivered: u32) -> Vec<String> {
+    let new_in = |m: &Words, other: &Words| -> Vec<(u32, Message)> {
+        let waiting = view::waiting(m).into_iter().filter_map(|slot| Some((slot, view::message(m, slot)?)));
+        waiting.filter(|&(slot, message)| slot == delivered || view::message(other, slot) != Some(message)).collect()
+    };
+    let lost = new_in(before, after).into_iter().filter(|(slot, _)| *slot != delivered);
+    let lost = lost.map(|(slot, message)| format!("lost: {}, in slot {slot}", words::sent(&message, bit(message.to))));
+    lost.chain(together(&new_in(after, before))).collect()
+}
+
+/// Messages that differ in the receiver alone are told together.
+fn together(sent: &[(u32, Message)]) -> Vec<String> {
     let mut groups: Vec<(Message, u32, Vec<u32>)> = Vec::new();
-    for slot in view::waiting(after) {
-        let Some(message) = view::message(after, slot) else { continue };
-        if slot != delivered && view::message(before, slot) == Some(message) {
-            continue;
-        }
-        let common = Message { to: 0, ..message };
+    for (slot, message) in sent {
+        let common = Message { to: 0, ..*message };
         match groups.iter_mut().find(|(other, ..)| *other == common) {
             Some((_, receivers, slots)) => {
                 *receivers |= bit(message.to);
-                slots.push(slot);
+                slots.push(*slot);
             }
-            None => groups.push((common, bit(message.to), vec![slot])),
+            None => groups.push((common, bit(message.to), vec![*slot])),
         }
     }
-    groups
-        .iter()
-        .map(|(message, receivers, slots)| {
-            format!("sent: {}, in {}", words::sent(message, *receivers), in_slots(slots))
-        })
-        .collect()
+    let told = |(message, receivers, slots): &(Message, u32, Vec<u32>)| {
+        format!("sent: {}, in {}", words::sent(message, *receivers), in_slots(slots))
+    };
+    groups.iter().map(told).collect()
 }
 
 /// "slot 3", "slots 3, 4, 7".

@@ -52,7 +52,7 @@ fn shrinks() {
     assert_eq!(bench("", &["shrink", &schedule, "--code", "20"]), said(0, busy, note));
     assert_eq!(bench("", &["shrink", "--code", "20", &schedule]), said(0, busy, note));
     assert_eq!(bench("", &["shrink", &schedule, "--code", "24"]), said(1, "", "bench: no line gets 24 NO SLOT"));
-    let unlisted = "bench: CODE is a listed code, 0 to 5 or 16 to 24, not 6";
+    let unlisted = "bench: CODE is one of 0, 1, 2, 3, 4, 5, 16, 17, 18, 19, 20, 21, 22, 23, 24, not 6";
     assert_eq!(bench("", &["shrink", &schedule, "--code", "6"]), said(2, "", unlisted));
     let misused = "bench: FILE is wanted, and nothing else but --code CODE";
     assert_eq!(bench("", &["shrink", "--code"]), said(2, "", misused));

@@ -4,10 +4,11 @@ use bench::compare::copy_output;
 use bench::history::{lines, raw_lines, Printed};
 use bench::meaning::bad_argument;
 use bench::newest::newest;
-use bench::tell::{machine_after, Line, Teller};
+use bench::tell::{machine_after, mail, Line, Teller};
 use bench::{cold_schedule, schedule};
 use copy::line::{parse, Call};
-use copy::{Numbers, Tag, Words};
+use copy::mail::clear;
+use copy::{Numbers, Rehearsal, Tag, Words};
 
 /// One client, directory and replica; the first page is 7.
 const SMALL: &str = "S 1 1 1 0 1 1 6 7\n";
@@ -181,6 +182,21 @@ fn what_moves() {
          changed: replica 1: (0,0) page 7 secured, (1,1) page 9 held; 10 of 12 entries free\n    \
          sent: write-ok from replica 1 to client 1, number 2, in slot 1\n"
     );
+}
+
+/// No call of today takes a message away without delivering it; where one does, it is told.
+#[test]
+fn a_message_that_is_lost() {
+    let mut machine = Rehearsal::new();
+    [&b"S 2 2 1 0 1 2 9 7"[..], b"R 1", b"R 2"].map(|line| machine.step(line));
+    let before = *machine.words();
+    let mut after = before;
+    clear(&mut after, 2);
+    assert_eq!(mail(&before, &after, 0), ["lost: rread from client 1 to directory 2, number 1, in slot 2"]);
+    assert_eq!(mail(&before, &after, 2), [""; 0]);
+    let again = ["sent: rread from client 1 to directory 2, number 1, in slot 2"];
+    assert_eq!(mail(&after, &before, 0), again);
+    assert_eq!(mail(&before, &before, 2), again, "delivered, and the like of it sent");
 }
 
 #[test]
