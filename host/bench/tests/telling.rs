@@ -188,7 +188,9 @@ fn what_moves() {
 #[test]
 fn a_message_that_is_lost() {
     let mut machine = Rehearsal::new();
-    [&b"S 2 2 1 0 1 2 9 7"[..], b"R 1", b"R 2"].map(|line| machine.step(line));
+    for line in [&b"S 2 2 1 0 1 2 9 7"[..], b"R 1", b"R 2"] {
+        machine.step(line);
+    }
     let before = *machine.words();
     let mut after = before;
     clear(&mut after, 2);
