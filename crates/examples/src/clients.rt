@@ -20,6 +20,7 @@ fn hears(top: u32, n: u32) -> Outcome
         rq: 1,
         wq: 1,
         top,
+        columns: 0,
     };
     let w = Client {
         down: 0,

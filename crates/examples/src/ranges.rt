@@ -1,4 +1,4 @@
-// The borders of the seven numbers.
+// The borders of the numbers.
 use crate::show;
 use inspect::fields;
 use tables::Conf;
@@ -23,6 +23,7 @@ fn quorum(rq: u32) {
         rq,
         wq: 2,
         top: 3,
+        columns: 0,
     });
 }
 
@@ -38,6 +39,7 @@ fn replicas(nr: u32) {
         rq: 1,
         wq: 1,
         top: 3,
+        columns: 0,
     });
 }
 

@@ -1,5 +1,7 @@
--- EACH PREMISE IS NEEDED: Needed, Stuck. NO FEWER: Replies, Spent, Held, Least. SO MANY DO: Waiting to Start. Both together: Final, and an Example.
+-- EACH PREMISE IS NEEDED: Needed, Stuck. NO FEWER: Replies, Spent, Held, Least. JUST ENOUGH: Choose, Columns, Quorums, Voters. SO MANY DO: Waiting to Start. Both together: Final, and an Example.
 pub mod Needed
+pub mod Choose
+pub mod Columns
 pub mod Quorums
 pub mod Ready
 pub mod Stuck
@@ -11,7 +13,6 @@ pub mod Waiting
 pub mod Delivery
 pub mod Serve
 pub mod Turn
-pub mod Choose
 pub mod Rounds
 pub mod Voters
 pub mod Phases

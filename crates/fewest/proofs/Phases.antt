@@ -29,14 +29,14 @@ use Rattle.history.proofs.Invariant.{Told, PhaseFact}
 use Rattle.history.proofs.Clients.{client-ok, heard-settled}
 use Rattle.history.proofs.Shape.{client-in}
 use Rattle.history.proofs.Walk.{Good}
-use Rattle.fewest.specs.Fewest.{leastToWrite, readPrice, writePrice}
+use Rattle.fewest.specs.Fewest.{setOf, leastToWrite, readPrice, writePrice}
 use Rattle.fewest.proofs.Quorums.{mostDirectories, needed}
 use Rattle.fewest.proofs.Ready.{Ready, ReadyToWrite}
 use Rattle.fewest.proofs.Delivery.{Ends}
 use Rattle.fewest.proofs.Serve.{Phase, rdr, rdw, rrr, wdr, wrw, wdw, Able, On, Replied}
 use Rattle.fewest.proofs.Turn.{asksOf, Opened, told, hears, phase-heard, below-heard, opened, ended}
 use Rattle.fewest.proofs.Rounds.{Onward, round}
-use Rattle.fewest.proofs.Choose.{end, next, rising-map, gather, Chosen, size-chosen, choose, one-fails}
+use Rattle.fewest.proofs.Choose.{end, next, rising-map, Chosen, size-chosen, choose, one-fails}
 use Rattle.fewest.proofs.Voters.{Standing, voters}
 
 -- sets of at most 16 parties
@@ -79,11 +79,11 @@ module _ (M : Machine) (G : Good M) (few : M .conf .directories ≤ 16) (c : ℕ
   Asked {E} {p} {N} o q = Able p (k .top) (directoryAt N q) (replicaAt N q) × (q ≤ 16) × (q ∈ asksOf k (o .row) p)
 
   module _ {E p rest code : ℕ} {N : Machine} (h : Phase p) (o : Opened M c E p N) where
-    phase : {P : ℕ → Type 0} {many : ℕ} (s : Chosen P 0 many) → 1 ≤ many → (2 ≤ many → many ≡ needed k p) → T (enoughFor k p (gather 0 (s .list)))
+    phase : {P : ℕ → Type 0} {many : ℕ} (s : Chosen P 0 many) → 1 ≤ many → (2 ≤ many → many ≡ needed k p) → T (enoughFor k p (setOf (s .list)))
         → ((q : ℕ) → 1 ≤ q → P q → Asked o q) → Onward M c E p code rest → Ends code c (2 * many + rest) N
     phase s z m e g f =
         subst (λ (i : ℕ). Ends code c (2 * i + rest) N) (s .count)
-        (round h f (s .list) (omega (arith, s .count)) (o .on) (rw (o .answered) (λ p k. absurd (none-in p k)))
+        (round (n .quorums) h f (s .list) (omega (arith, s .count)) (o .on) (rw (o .answered) (λ p k. absurd (none-in p k)))
         (λ i. rw (o .answered) (omega (arith, m (omega (arith, s .count)), s .count, size-none))) (rw (o .answered) e)
         (rising-map (λ q l p. let a = g q l p in record { able = a .0; asks = o .asks q l (a .1) (a .2) }) (s .rising)))
 
@@ -161,7 +161,7 @@ module _ (M : Machine) (G : Good M) (few : M .conf .directories ≤ 16) (c : ℕ
     five : (N : Machine) → Opened M c (mostDirectories M + 5) 5 N → Ends 2 c (2 * (k .f + 1) + (2 * leastToWrite k + 0)) N
     unfolding enoughFor
     five N o =
-        phase wrw o s (omega arith) (λ _. refl) (le→leb (k .f + 1) (size (gather 0 (s .list))) (omega (arith, size-chosen s))) (λ q l a. a)
+        phase wrw o s (omega arith) (λ _. refl) (le→leb (k .f + 1) (size (setOf (s .list))) (omega (arith, size-chosen s))) (λ q l a. a)
         (λ _ _ _ S e. opened wrw S 6 wdw (λ i. omega arith) e refl small-directories (omega (arith, few-to-ask)) six)
       where
         able : (r : ℕ) → 0 < r → r ≤ 0 + k .replicas → T (not (isDown M AReplica r) && some? isFree (replicaAt M r .entries)) → Asked o r

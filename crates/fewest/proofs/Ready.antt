@@ -18,13 +18,14 @@ use Rattle.tables.proofs.All.{All, none, cons}
 use Rattle.tables.proofs.Lists.{none-passes}
 use Rattle.mail.specs.Slots.{emptySlots}
 use Rattle.inspect.specs.Good.{isParty}
+use Rattle.rules.specs.Quorums.{enoughToRead, enoughToWrite}
 use Rattle.machine.specs.Calls.{isDown}
 use Rattle.machine.specs.Refusals.{isBusy, isWorn}
 use Rattle.runs.proofs.Acts.{Among, among}
 use Rattle.runs.proofs.Rows.{directory-of}
 use Rattle.history.proofs.Shape.{client-in}
 use Rattle.history.proofs.Walk.{Good}
-use Rattle.fewest.specs.Fewest.{leastToRead, leastToWrite, ups, downs, slotsAsked, askedToRead, keepers, isAtTop, askedToWrite, allOf}
+use Rattle.fewest.specs.Fewest.{ups, downs, setOf, slotsAsked, askedToRead, keepers, isAtTop, askedToWrite, allOf}
 
 pub record Ready (M : Machine) (c : ℕ) : Type 0 where
   pub low : 1 ≤ c
@@ -33,8 +34,8 @@ pub record Ready (M : Machine) (c : ℕ) : Type 0 where
   pub up : clientAt M c .down ≡ 0
   pub unworn : clientAt M c .number + 3 ≤ M .conf .top
   pub replicas : length (downs M AReplica) ≤ M .conf .f
-  pub readers : leastToRead (M .conf) ≤ length (ups M ADirectory)
-  pub writers : leastToWrite (M .conf) ≤ length (ups M ADirectory)
+  pub readers : T (enoughToRead (M .conf) (setOf (ups M ADirectory)))
+  pub writers : T (enoughToWrite (M .conf) (setOf (ups M ADirectory)))
   pub slots : slotsAsked M ≤ emptySlots (M .slots)
 
 pub record ReadyToWrite (M : Machine) (c : ℕ) : Type 0 where
@@ -65,8 +66,8 @@ of-each {P} (cons h hs) m = ⊎-elim (λ e. subst P (sym e) h) (λ n. of-each hs
 
 module _ (M : Machine) (G : Good M) (c : ℕ) where
   facts : T (isParty (M .conf) AClient c) → T (not (isBusy M c)) → T (not (isDown M AClient c)) → T (not (isWorn M c))
-      → T (leb (length (downs M AReplica)) (M .conf .f)) → T (leb (leastToRead (M .conf)) (length (ups M ADirectory)))
-      → T (leb (leastToWrite (M .conf)) (length (ups M ADirectory))) → T (leb (slotsAsked M) (emptySlots (M .slots))) → Ready M c
+      → T (leb (length (downs M AReplica)) (M .conf .f)) → T (enoughToRead (M .conf) (setOf (ups M ADirectory)))
+      → T (enoughToWrite (M .conf) (setOf (ups M ADirectory))) → T (leb (slotsAsked M) (emptySlots (M .slots))) → Ready M c
   facts client idle up unworn replicas readers writers slots =
       let p : Among (M .conf .clients) c = among (M .conf .clients) c client in
       record {
@@ -76,8 +77,8 @@ module _ (M : Machine) (G : Good M) (c : ℕ) where
         up = is-up (clientAt M c .down) (client-in M (G .sound) c p .down) up;
         unworn = nltb→le (M .conf .top) (clientAt M c .number + 3) unworn;
         replicas = leb→le _ _ replicas;
-        readers = leb→le _ _ readers;
-        writers = leb→le _ _ writers;
+        readers = readers;
+        writers = writers;
         slots = leb→le _ _ slots;
       }
 

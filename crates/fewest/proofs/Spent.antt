@@ -184,7 +184,7 @@ module _ (M : Machine) (z : Sound M) (few : M .conf .directories ≤ 16) (v : In
     -- a phase that is complete has cost two deliveries for each that it needs
     completed : (p : ℕ) → Completes (M .conf) w x p → paidBefore (M .conf) p + needed (M .conf) p + needed (M .conf) p ≤ d + 1
     completed p c =
-        let n = enough-least (M .conf) p (heard w x .answered) (c .enough) in
+        let n = enough-least (M .conf) (numbers-of z .quorums) p (heard w x .answered) (c .enough) in
         omega (
           arith,
           subst (λ (q : ℕ). paidBefore (M .conf) q + size (g .replied) + size (w .answered) ≤ d) (c .phase) (g .paid),

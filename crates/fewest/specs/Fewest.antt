@@ -1,6 +1,7 @@
 -- How few deliveries will do: what is asked, what an operation then costs, what is counted, and what it is to take so many.
-use Rattle.sets.specs.Plain.{_≡_, _⊎_, Bool, true, not, _&&_, ℕ, _+_, _*_, T, leb, eqb, List, [], _∷_, _++_, map, length, keep, numbers}
+use Rattle.sets.specs.Plain.{_≡_, _⊎_, Bool, true, not, _&&_, ℕ, _+_, _*_, _/_, T, leb, eqb, List, [], _∷_, _++_, map, length, if_then_else_, keep, numbers}
 use Prim.Native.Nat.{_≤_}
+use Rattle.sets.specs.Sets.{with}
 use Rattle.tables.specs.declared.Layout.{Layout}
 use Rattle.tables.specs.declared.Conf.{Conf}
 use Rattle.tables.specs.declared.Party.{Party}
@@ -10,6 +11,7 @@ use Rattle.tables.specs.Rows.{some?, count}
 use Rattle.tables.specs.Tables.{Machine, noPage, directoryAt, replicaAt, isFree}
 use Rattle.mail.specs.Slots.{emptySlots}
 use Rattle.inspect.specs.Good.{isParty}
+use Rattle.rules.specs.Quorums.{enoughToRead, enoughToWrite}
 use Rattle.machine.specs.Calls.{Call, deliver, asks, asked, isDown}
 use Rattle.machine.specs.Refusals.{isBusy, isWorn}
 use Rattle.machine.specs.Buffers.{isSetUp, call}
@@ -21,12 +23,12 @@ abbrev pub allOf : List Bool → Bool
 allOf [] = true
 allOf (b ∷ bs) = b && allOf bs
 
--- the fewest directories that are enough for reading, and for writing
+-- the fewest directories that are enough for reading, and for writing: "rq and wq become the column height and the columns"
 abbrev pub leastToRead : Conf → ℕ
-leastToRead k = k .rq
+leastToRead k = if eqb (k .columns) 0 then k .rq else k .directories / k .columns
 
 abbrev pub leastToWrite : Conf → ℕ
-leastToWrite k = k .wq
+leastToWrite k = if eqb (k .columns) 0 then k .wq else k .columns
 
 -- the parties of a kind that are up, and those that are down
 abbrev pub ups : Machine → Party → List ℕ
@@ -35,11 +37,20 @@ ups M who = keep (λ p. not (isDown M who p)) (numbers 1 (manyOf (M .conf) who))
 abbrev pub downs : Machine → Party → List ℕ
 downs M who = keep (isDown M who) (numbers 1 (manyOf (M .conf) who))
 
+-- a set and the parties of a list
+abbrev pub gather : ℕ → List ℕ → ℕ
+gather s [] = s
+gather s (p ∷ ps) = gather (with s p) ps
+
+abbrev pub setOf : List ℕ → ℕ
+setOf ps = gather 0 ps
+
 -- 21 with 5 directory rows, and 43 with 16
 abbrev pub slotsAsked : Machine → ℕ
 slotsAsked M = 2 * length (M .directories) + 11
 
--- "an idle client that is up, with three message numbers left; at most f replicas down; at least the greater of rq and wq directories up; 21 empty slots"
+-- "an idle client that is up, with three message numbers left; at most f replicas down; at least the greater of rq and wq directories up; 21 empty slots";
+-- in columns "one whole column up and one up in each column": the directories that are up are enough for reading, and for writing
 abbrev pub askedToRead : Machine → ℕ → List Bool
 askedToRead M c =
     isParty (M .conf) AClient c
@@ -47,8 +58,8 @@ askedToRead M c =
     ∷ not (isDown M AClient c)
     ∷ not (isWorn M c)
     ∷ leb (length (downs M AReplica)) (M .conf .f)
-    ∷ leb (leastToRead (M .conf)) (length (ups M ADirectory))
-    ∷ leb (leastToWrite (M .conf)) (length (ups M ADirectory))
+    ∷ enoughToRead (M .conf) (setOf (ups M ADirectory))
+    ∷ enoughToWrite (M .conf) (setOf (ups M ADirectory))
     ∷ leb (slotsAsked M) (emptySlots (M .slots))
     ∷ []
 

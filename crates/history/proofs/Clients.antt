@@ -4,7 +4,6 @@ use mathlib.Core.Bool.{true, not}
 use mathlib.Core.Logic.{⊎-elim}
 use Prim.Native.Nat.{ℕ, _+_, _^_, _≤_, _<_}
 use native.Mathlib.Nat.{le-of-eq}
-use native.Mathlib.Omega.{arith}
 use lib.Bits.{or-zero-l}
 use lib.Dec.{T, eqb, leb→le, eqb→eq, T-not}
 use Rattle.sets.specs.declared.Tag.{Tag}
@@ -13,7 +12,7 @@ use Rattle.sets.specs.declared.Order.the-variants.{Lower, Same, Greater}
 use Rattle.sets.specs.Tags.{tag, against}
 use Rattle.sets.specs.Sets.{size, join, with}
 use Rattle.sets.specs.Inner.{_∈_}
-use Rattle.sets.proofs.Laws.{none-in, with-in, with-lt, size-none}
+use Rattle.sets.proofs.Laws.{none-in, with-in, with-lt}
 use Rattle.sets.proofs.Tests.{if-ind}
 use Rattle.sets.proofs.TagOrder.{_≼_, _≺_, ≺-≼, ≺-irrefl, first-least, view as compare, is-lower, is-same, is-greater}
 use Rattle.tables.specs.declared.Conf.{Conf}
@@ -30,6 +29,7 @@ use Rattle.rules.specs.declared.Outcome.{Outcome}
 use Rattle.rules.specs.declared.Outcome.the-variants.{Next}
 use Rattle.rules.specs.Quorums.{enoughToRead, enoughToWrite}
 use Rattle.rules.specs.Client.{awaited, enoughFor, hearing, gathered as gatheredBy, raised, heard, moved, started, clientAfter, request, secures, clientPost}
+use Rattle.rules.proofs.Enough.{none-read}
 use Rattle.rules.proofs.Heard.{heard-keeps, heard-answered}
 use Rattle.rules.proofs.Views.{Timely, Completes, View, v-stale, v-waits, v-1, v-2, v-3, v-4, v-spent, v-5, v-6}
 use Rattle.runs.proofs.Acts.{Among}
@@ -170,17 +170,13 @@ module _ (M : Machine) (z : Sound M) (v : Invariant M) (x : Message) (g : Messag
   ended-known c =
       subst (Known M) (ap (λ (w : Client). w .tag) (heard-settled old x 6 (c .phase) tt)) (reached-known 6 refl refl c (c .enough) (phase-ok 6 c .1))
 
-  nobody : T (enoughToRead (M .conf) 0) → ⊥
-  unfolding enoughToRead
-  nobody h = omega (arith, leb→le (M .conf .rq) (size 0) h, size-none, numbers-of z .some-read)
-
   told : Completes (M .conf) old x 1 → Told M (u .tag) (u .replicas)
   unfolding enoughFor
   told c = go (phase-ok 1 c)
     where
       go : Gathering M (u .tag) (u .replicas) (u .answered) → Told M (u .tag) (u .replicas)
       go (gathered h) = h
-      go (unheard t s e) = absurd (nobody (subst (λ (b : ℕ). T (enoughToRead (M .conf) b)) e (c .enough)))
+      go (unheard t s e) = absurd (none-read (M .conf) (numbers-of z .quorums) (subst (λ (b : ℕ). T (enoughToRead (M .conf) b)) e (c .enough)))
 
   module _ {N : Machine} (l : Later M N) where
     -- the row afterwards, and what is sent where the machine has that row

@@ -19,7 +19,7 @@ use Rattle.machine.specs.Buffers.{call}
 use Rattle.rules.specs.declared.Answer.{Answer}
 use Rattle.rules.specs.Answers.{answer, coded}
 use Rattle.mail.specs.Posts.{messagesOf}
-use Rattle.rules.specs.Quorums.{enoughToRead, enoughToWrite}
+use Rattle.rules.specs.Quorums.{hasColumn, meetsColumns, enoughToRead, enoughToWrite}
 use Rattle.rules.specs.Directory.{directoryAfter, directoryPost}
 use Rattle.rules.specs.Replica.{entryWith, higherOf, highest, secure, write, read, replicaAfter, replicaPost, isFull}
 use Rattle.rules.specs.Client.{awaited, enoughFor, isStale, heard, chosen, turned, outcome, clientAfter, request, secures, clientPost}
@@ -35,7 +35,11 @@ abbrev page : ℕ → Page
 page w = w ∷ replicate 15 0
 
 abbrev small : Conf
-small = record { clients = 1; directories = 1; replicas = 1; f = 0; rq = 1; wq = 1; top = 6 }
+small = record { clients = 1; directories = 1; replicas = 1; f = 0; rq = 1; wq = 1; top = 6; columns = 0 }
+
+-- two directories in two columns: reading takes one of them, and writing both
+abbrev paired : Conf
+paired = record { clients = 1; directories = 2; replicas = 1; f = 0; rq = 0; wq = 0; top = 6; columns = 2 }
 
 abbrev at : ℕ → Call
 at s = deliver s (page 0)
@@ -43,6 +47,12 @@ at s = deliver s (page 0)
 rehearsal : List Call
 rehearsal =
     startWrite 1 (page 9) ∷ at 1 ∷ at 1 ∷ at 1 ∷ at 1 ∷ at 1 ∷ at 1 ∷ startRead 1 ∷ at 2 ∷ at 2 ∷ at 2 ∷ at 2 ∷ at 2 ∷ at 2 ∷ startRead 1 ∷ []
+
+-- a write, a read and a start with no numbers left, as few deliveries as will do
+rehearsal-paired : List Call
+rehearsal-paired =
+    startWrite 1 (page 9) ∷ at 1 ∷ at 1 ∷ at 1 ∷ at 1 ∷ at 1 ∷ at 1 ∷ at 3 ∷ at 1
+    ∷ startRead 1 ∷ at 3 ∷ at 3 ∷ at 3 ∷ at 3 ∷ at 5 ∷ at 3 ∷ at 3 ∷ at 3 ∷ startRead 1 ∷ []
 
 -- what each call answers, and what the page to fill holds afterwards
 answers : Layout → List ℕ → List Call → List (Answer × Page)
@@ -65,30 +75,41 @@ quiet = (coded 0, page 0)
 abbrev begins : Answer × Page
 begins = (coded 0, [])
 
-abbrev start : Layout → List ℕ
-start lay = call lay (setUp small (page 7)) (replicate (extent lay) 0) .buffer
+abbrev start : Layout → Conf → List ℕ
+start lay k = call lay (setUp k (page 7)) (replicate (extent lay) 0) .buffer
 
 abbrev answered : List (Answer × Page)
 answered =
     begins ∷ quiet ∷ quiet ∷ quiet ∷ quiet ∷ quiet ∷ (answer 2 1 (tag 1 1), page 0)
     ∷ begins ∷ quiet ∷ quiet ∷ quiet ∷ quiet ∷ quiet ∷ (answer 1 1 (tag 1 1), page 9) ∷ (coded 21, []) ∷ []
 
+abbrev answered-paired : List (Answer × Page)
+answered-paired =
+    begins ∷ quiet ∷ quiet ∷ quiet ∷ quiet ∷ quiet ∷ quiet ∷ quiet ∷ (answer 2 1 (tag 1 1), page 0)
+    ∷ begins ∷ quiet ∷ quiet ∷ quiet ∷ quiet ∷ quiet ∷ quiet ∷ quiet ∷ (answer 1 1 (tag 1 1), page 9) ∷ (coded 21, []) ∷ []
+
 -- in either layout
-answers-are : (answers base (start base) rehearsal ≡ answered) × (answers wide (start wide) rehearsal ≡ answered)
-unfolding answers call good goodMachine clientRow directoryRow replicaRow slotRow goodClient goodDirectory goodEntry goodReplica goodMessage tagsOnce zeros rowsWords rowsOf clientsOf directoriesOf slotsOf joined confWords clientWords directoryWords downWords entryWords replicaWords messageWords confOf clientOf directoryOf entryOf messageOf entriesOf replicasOf blocks words machineOf rehearsal ones onesIn against senderOf receiverOf noPage noClient noDirectory noEntry noReplica noMessage goodNumbers messagesOf enoughToRead enoughToWrite directoryAfter directoryPost entryWith higherOf highest secure write read replicaAfter replicaPost isFull awaited enoughFor isStale heard chosen turned outcome clientAfter request secures clientPost startEffect clientEffect directoryEffect replicaEffect deliverEffect refusal newMachine effectOf step
+answers-are : (answers base (start base small) rehearsal ≡ answered) × (answers wide (start wide paired) rehearsal-paired ≡ answered-paired)
+unfolding answers call good goodMachine clientRow directoryRow replicaRow slotRow goodClient goodDirectory goodEntry goodReplica goodMessage tagsOnce zeros rowsWords rowsOf clientsOf directoriesOf slotsOf joined confWords clientWords directoryWords downWords entryWords replicaWords messageWords confOf clientOf directoryOf entryOf messageOf entriesOf replicasOf blocks words machineOf rehearsal rehearsal-paired ones onesIn against senderOf receiverOf noPage noClient noDirectory noEntry noReplica noMessage goodNumbers messagesOf hasColumn meetsColumns enoughToRead enoughToWrite directoryAfter directoryPost entryWith higherOf highest secure write read replicaAfter replicaPost isFull awaited enoughFor isStale heard chosen turned outcome clientAfter request secures clientPost startEffect clientEffect directoryEffect replicaEffect deliverEffect refusal newMachine effectOf step
 answers-are = (refl, refl)
 
-rehearsed : (lay : Layout) → answers lay (start lay) rehearsal ≡ answered
-    → events (onBuffer lay) (start lay) rehearsal
+rehearsed : events (onBuffer base) (start base small) rehearsal
     ≡ write-begins 1 (page 9) ∷ nothing ∷ nothing ∷ nothing ∷ nothing ∷ nothing ∷ write-ends 1
     ∷ read-begins 1 ∷ nothing ∷ nothing ∷ nothing ∷ nothing ∷ nothing ∷ read-ends 1 (page 9) ∷ nothing ∷ []
 unfolding eventOf shown rehearsal
-rehearsed lay e = as-shown lay (start lay) rehearsal ∙ ap (shown rehearsal) e
+rehearsed = as-shown base (start base small) rehearsal ∙ ap (shown rehearsal) (answers-are .0)
 
--- twelve directories are more than one layout has room for, and fit the other
-abbrev twelve : Call
-twelve = setUp (record { clients = 1; directories = 12; replicas = 1; f = 0; rq = 6; wq = 7; top = 6 }) (page 7)
+rehearsed-paired : events (onBuffer wide) (start wide paired) rehearsal-paired
+    ≡ write-begins 1 (page 9) ∷ nothing ∷ nothing ∷ nothing ∷ nothing ∷ nothing ∷ nothing ∷ nothing ∷ write-ends 1
+    ∷ read-begins 1 ∷ nothing ∷ nothing ∷ nothing ∷ nothing ∷ nothing ∷ nothing ∷ nothing ∷ read-ends 1 (page 9) ∷ nothing ∷ []
+unfolding eventOf shown rehearsal-paired
+rehearsed-paired = as-shown wide (start wide paired) rehearsal-paired ∙ ap (shown rehearsal-paired) (answers-are .1)
 
-set-up-twelve : (call base twelve (replicate 4992 0) .answer ≡ coded 18) × (call wide twelve (replicate 5036 0) .answer ≡ coded 0)
+-- twelve directories are more than one layout has room for; in the other they stand in 3 columns, and not in 5
+abbrev twelve : ℕ → Call
+twelve columns = setUp (record { clients = 1; directories = 12; replicas = 1; f = 0; rq = 0; wq = 0; top = 6; columns = columns }) (page 7)
+
+set-up-twelve : (call base (twelve 3) (replicate 4992 0) .answer ≡ coded 18) × (call wide (twelve 3) (replicate 5036 0) .answer ≡ coded 0)
+    × (call wide (twelve 5) (replicate 5036 0) .answer ≡ coded 18)
 unfolding call goodNumbers rowsOf directoriesOf directoryOf slotsOf machineOf messageOf messagesOf refusal effectOf step
-set-up-twelve = (refl, refl)
+set-up-twelve = (refl, refl, refl)

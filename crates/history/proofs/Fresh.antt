@@ -4,12 +4,12 @@ use mathlib.Core.Bool.{true, not}
 use mathlib.Core.List.{map}
 use Prim.Native.Nat.{ℕ, zero, suc, _+_, _≤_, _<_}
 use native.Mathlib.Omega.{arith}
-use lib.Dec.{T, leb, le→leb, nleb→lt}
+use lib.Dec.{T, leb, nleb→lt}
 use lib.ListN.{getD}
 use Rattle.sets.specs.Plain.{numbers}
 use Rattle.sets.specs.declared.Tag.{Tag}
 use Rattle.sets.specs.Tags.{first}
-use Rattle.sets.specs.Sets.{size, all}
+use Rattle.sets.specs.Sets.{all}
 use Rattle.sets.proofs.Laws.{all-in, all-lt, size-all}
 use Rattle.sets.proofs.Tests.{if-ind}
 use Rattle.sets.proofs.TagOrder.{first-least}
@@ -21,7 +21,7 @@ use Rattle.tables.proofs.All.{All, cons, all-replicate, all-row}
 use Rattle.tables.proofs.Whole.{Paged}
 use Rattle.inspect.specs.Good.{goodNumbers}
 use Rattle.inspect.proofs.Facts.{NumbersFacts, numbers-facts}
-use Rattle.rules.specs.Quorums.{enoughToWrite}
+use Rattle.rules.proofs.Enough.{all-write}
 use Rattle.rules.proofs.Covers.{Covers, held}
 use Rattle.machine.specs.SetUp.{firstDirectory, firstReplica, newMachine}
 use Rattle.runs.proofs.New.{new-sound}
@@ -52,12 +52,12 @@ module _ (r : ℕ) (k : Conf) (p : Page) (g : goodNumbers r k ≡ true) where
   n = numbers-facts r k g
 
   known : Known M first
-  unfolding newMachine enoughToWrite
+  unfolding newMachine
   known =
       record {
         quorum = all (k .directories);
         inside = all-lt (k .directories);
-        enough = le→leb (k .wq) (size (all (k .directories))) (omega (arith, size-all (k .directories), n .written-within));
+        enough = all-write k (n .quorums);
         reached = λ d _. first-least (directoryAt (newMachine r k p) d .tag);
       }
 

@@ -19,6 +19,7 @@ use Rattle.tables.specs.declared.Entry.{Entry}
 use Rattle.tables.specs.declared.Message.{Message}
 use Rattle.tables.specs.Tables.{Machine, noMessage, clientAt, directoryAt, replicaAt, slotAt}
 use Rattle.tables.proofs.All.{All, none, cons, all-row, all-map}
+use Rattle.tables.proofs.Quorums.{Quorums}
 use Rattle.mail.specs.declared.Post.{Post}
 use Rattle.rules.specs.declared.Outcome.{Outcome}
 use Rattle.rules.specs.declared.Outcome.the-variants.{Waiting, Next, ReadEnded, WriteEnded, Spent, Stale}
@@ -208,6 +209,6 @@ module _ (M : Machine) (s : ℕ) (F : Tag) (k : Timely (clientAt M (slotAt M s .
       stays q = ap (λ (v : Client). v .tag) (heard-settled w x (w .phase) refl q)
 
 -- enough answers: one of them is from the quorum
-pub asked : (M : Machine) (c n a : ℕ) (t F : Tag) → Asking M c n a t F → M .conf .directories < M .conf .rq + M .conf .wq → a < 2 ^ M .conf .directories
+pub asked : (M : Machine) (c n a : ℕ) (t F : Tag) → Asking M c n a t F → Quorums (M .conf) → a < 2 ^ M .conf .directories
     → T (enoughToRead (M .conf) a) → F ≼ t
 asked M c n a t F h q i e = let r = quorums-meet (M .conf) a (h .quorum) q i (h .inside) e (h .enough) in h .heard (r .0) (r .3) (r .4)

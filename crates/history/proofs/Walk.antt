@@ -136,7 +136,7 @@ module _ (M : Machine) (G : Good M) where
     told : (F : Tag) (p : ℕ) → Completes (M .conf) w x p → asksDirectories p ≡ true → senderOf (awaited p) ≡ ADirectory → T (enoughToRead (M .conf) (y .answered))
         → Asking M c (y .number) (y .answered) (y .tag) F → F ≼ y .tag
     told F p i q d e t =
-        asked M c (y .number) (y .answered) (y .tag) F t (numbers-of (G .sound) .quorums-meet) (asked-in M (G .sound) x (m .facts) (m .receiver) p q d i) e
+        asked M c (y .number) (y .answered) (y .tag) F t (numbers-of (G .sound) .quorums) (asked-in M (G .sound) x (m .facts) (m .receiver) p q d i) e
 
     -- the row after a change of phase
     abbrev turned : ℕ → Tag → Client

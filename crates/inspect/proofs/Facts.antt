@@ -1,12 +1,13 @@
 -- What a good machine says: each condition of Good, taken out.
 use mathlib.Core.Bool.{Bool, true, false, and-false, false≢true}
 use mathlib.Core.Path.{_≡_}
-use Prim.Native.Nat.{ℕ, suc, _+_, _*_, _^_, _≤_, _<_}
+use Prim.Native.Nat.{ℕ, suc, _+_, _*_, _%_, _^_, _≤_, _<_}
 use native.Mathlib.Omega.{arith}
 use borrow.Author.Tests.{eq-eqb, ne-eqb, eqb-true, leb-true, leb-false, ltb-true, ltb-false, lt-leb, le-leb, lt-ltb}
 use lib.Dec.{leb, eqb}
 use lib.ListN.{length, getD}
 use lib.Pow.{pow-pos}
+use Rattle.sets.specs.Plain.{if_then_else_}
 use Rattle.sets.specs.declared.Tag.{Tag}
 use Rattle.sets.proofs.Tests.{passes-by}
 use Rattle.tables.specs.declared.Conf.{Conf}
@@ -14,17 +15,19 @@ use Rattle.tables.specs.declared.Client.{Client}
 use Rattle.tables.specs.declared.Directory.{Directory}
 use Rattle.tables.specs.declared.Entry.{Entry}
 use Rattle.tables.specs.declared.Message.{Message}
+use Rattle.tables.specs.Layouts.{inColumns}
 use Rattle.tables.specs.Kinds.{senderOf, receiverOf, manyOf, carriesSet, carriesTag, carriesPage, carriesNumber}
 use Rattle.tables.specs.Phases.{asksDirectories, asksReplicas, usesReplicaSet, usesTag, usesPage, roundsLeft}
 use Rattle.tables.specs.Rows.{some?}
 use Rattle.tables.specs.Tables.{Replica, noEntry, isFree, isSecured}
 use Rattle.tables.specs.Words.{entryWords}
-use Rattle.inspect.specs.Good.{between, zeros, field, eachRow, goodNumbers, goodTag, zeroTag, goodSet, goodAnswered, goodClient, goodDirectory, goodEntry, tagsOnce, goodReplica, goodMessage}
+use Rattle.tables.proofs.Quorums.{Counts, Columns, Quorums, counts, columns}
+use Rattle.inspect.specs.Good.{between, zeros, field, eachRow, goodCounts, goodColumns, goodNumbers, goodTag, zeroTag, goodSet, goodAnswered, goodClient, goodDirectory, goodEntry, tagsOnce, goodReplica, goodMessage}
 use Rattle.inspect.specs.Inner.{Few}
 use Rattle.inspect.proofs.Tests.{le-by, eq-by, field-any, field-used, field-zero}
 use Rattle.inspect.proofs.Each.{each-at}
 
--- ---- the seven numbers
+-- ---- the numbers
 
 pub record NumbersFacts (n : ℕ) (k : Conf) : Type 0 where
   pub some-clients : 1 ≤ k .clients
@@ -35,13 +38,33 @@ pub record NumbersFacts (n : ℕ) (k : Conf) : Type 0 where
   pub few-replicas : k .replicas ≤ 7
   pub few-crashes : k .f ≤ 3
   pub enough-replicas : 2 * k .f + 1 ≤ k .replicas
-  pub some-read : 1 ≤ k .rq
-  pub read-within : k .rq ≤ k .directories
-  pub some-written : 1 ≤ k .wq
-  pub written-within : k .wq ≤ k .directories
-  pub quorums-meet : k .directories < k .rq + k .wq
+  pub quorums : Quorums k
   pub some-rounds : 3 ≤ k .top
   pub top-fits : k .top ≤ 4294967295
+
+module _ (k : Conf) where
+  counts-facts : goodCounts k ≡ true → Counts k
+  counts-facts g =
+      record {
+        none = eq-by (k .columns) 0 (goodCounts k) (λ f. simp (f, and-false)) g;
+        some-read = le-by 1 (k .rq) (goodCounts k) (λ f. simp f) g;
+        read-within = le-by (k .rq) (k .directories) (goodCounts k) (λ f. simp (f, and-false)) g;
+        some-written = le-by 1 (k .wq) (goodCounts k) (λ f. simp (f, and-false)) g;
+        written-within = le-by (k .wq) (k .directories) (goodCounts k) (λ f. simp (f, and-false)) g;
+        meet = le-by (suc (k .directories)) (k .rq + k .wq) (goodCounts k) (λ f. simp (f, and-false)) g;
+      }
+
+  columns-facts : goodColumns k ≡ true → Columns k
+  columns-facts g =
+      record {
+        some = le-by 1 (k .columns) (goodColumns k) (λ f. simp (f, and-false)) g;
+        within = le-by (k .columns) (k .directories) (goodColumns k) (λ f. simp (f, and-false)) g;
+        equal = eq-by (k .directories % k .columns) 0 (goodColumns k) (λ f. simp (f, and-false)) g;
+      }
+
+  either-quorums : (b : Bool) → (if b then goodColumns k else goodCounts k) ≡ true → Quorums k
+  either-quorums true g = columns (columns-facts g)
+  either-quorums false g = counts (counts-facts g)
 
 module _ (n : ℕ) (k : Conf) (g : goodNumbers n k ≡ true) where
   at-most : (a b : ℕ) → (leb a b ≡ false → goodNumbers n k ≡ false) → a ≤ b
@@ -59,11 +82,7 @@ module _ (n : ℕ) (k : Conf) (g : goodNumbers n k ≡ true) where
         few-replicas = at-most (k .replicas) 7 (λ f. simp (f, and-false));
         few-crashes = at-most (k .f) 3 (λ f. simp (f, and-false));
         enough-replicas = at-most (2 * k .f + 1) (k .replicas) (λ f. simp (f, and-false));
-        some-read = at-most 1 (k .rq) (λ f. simp (f, and-false));
-        read-within = at-most (k .rq) (k .directories) (λ f. simp (f, and-false));
-        some-written = at-most 1 (k .wq) (λ f. simp (f, and-false));
-        written-within = at-most (k .wq) (k .directories) (λ f. simp (f, and-false));
-        quorums-meet = at-most (suc (k .directories)) (k .rq + k .wq) (λ f. simp (f, and-false));
+        quorums = either-quorums k (inColumns n) (passes-by _ (goodNumbers n k) (λ (f : (if inColumns n then goodColumns k else goodCounts k) ≡ false). simp (f, and-false)) g);
         some-rounds = at-most 3 (k .top) (λ f. simp (f, and-false));
         top-fits = at-most (k .top) 4294967295 (λ f. simp (f, and-false));
       }

@@ -1,6 +1,6 @@
 -- "A bad machine is one where .. Nothing else is bad": `good` is true where the machine is not bad, and false where it is.
 -- Each line of a conjunction is one of the paper's conditions.
-use Rattle.sets.specs.Plain.{Bool, true, not, _&&_, _||_, ℕ, suc, _+_, _*_, _^_, leb, ltb, eqb, List, [], _∷_, length, if_then_else_}
+use Rattle.sets.specs.Plain.{Bool, true, not, _&&_, _||_, ℕ, suc, _+_, _*_, _%_, _^_, leb, ltb, eqb, List, [], _∷_, length, if_then_else_}
 use Rattle.sets.specs.declared.Tag.{Tag}
 use Rattle.tables.specs.declared.Layout.{Layout}
 use Rattle.tables.specs.declared.Conf.{Conf}
@@ -9,6 +9,7 @@ use Rattle.tables.specs.declared.Client.{Client}
 use Rattle.tables.specs.declared.Directory.{Directory}
 use Rattle.tables.specs.declared.Entry.{Entry}
 use Rattle.tables.specs.declared.Message.{Message}
+use Rattle.tables.specs.Layouts.{inColumns}
 use Rattle.tables.specs.Rows.{some?}
 use Rattle.tables.specs.Tables.{Replica, Machine, isFree, hasTag, isSecured, isEmpty}
 use Rattle.tables.specs.Words.{clientWords, directoryWords, entryWords, replicaWords, messageWords}
@@ -37,6 +38,23 @@ eachRow test n (x ∷ xs) = test n x && eachRow test (suc n) xs
 
 -- ---- "Numbers and parties"
 
+-- "read quorum rq, write quorum wq: 1 to nd, with rq + wq greater than nd"; word 7 is a spare
+abbrev pub goodCounts : Conf → Bool
+goodCounts k =
+    between 1 (k .directories) (k .rq)
+    && between 1 (k .directories) (k .wq)
+    && ltb (k .directories) (k .rq + k .wq)
+    && eqb (k .columns) 0
+
+-- "2 to 16 directories stand in equal columns"; "columns outside 1 to nd, or not dividing nd"; "Fixed rq and wq are zero here"
+abbrev pub goodColumns : Conf → Bool
+goodColumns k =
+    leb 2 (k .directories)
+    && between 1 (k .directories) (k .columns)
+    && eqb (k .directories % k .columns) 0
+    && eqb (k .rq) 0
+    && eqb (k .wq) 0
+
 -- "directories nd: 1 to 5" in a machine with 5 rows for them, and 1 to n in one with n
 unfoldable pub goodNumbers : ℕ → Conf → Bool
 goodNumbers n k =
@@ -45,9 +63,7 @@ goodNumbers n k =
     && between 1 7 (k .replicas)
     && leb (k .f) 3
     && leb (2 * k .f + 1) (k .replicas)
-    && between 1 (k .directories) (k .rq)
-    && between 1 (k .directories) (k .wq)
-    && ltb (k .directories) (k .rq + k .wq)
+    && (if inColumns n then goodColumns k else goodCounts k)
     && between 3 4294967295 (k .top)
 
 -- at most that number and that client, and both are 0 or neither is

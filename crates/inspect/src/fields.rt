@@ -2,7 +2,9 @@
 ghost use mathlib.Core.Path.{_≡_};
 ghost use Prim.Native.Nat.{_^_, _≤_};
 ghost use lib.Dec.{eqb};
-ghost use Rattle.inspect.specs.Good.{between, zeros, goodNumbers, goodTag, tagWithin};
+ghost use Rattle.sets.specs.Plain.{if_then_else_};
+ghost use Rattle.tables.specs.Layouts.{inColumns};
+ghost use Rattle.inspect.specs.Good.{between, zeros, goodCounts, goodColumns, goodNumbers, goodTag, tagWithin};
 use sets::Tag;
 use tables::Conf;
 
@@ -26,7 +28,36 @@ pub(crate) fn zero(s: &[u32]) -> bool
     joined(s) == 0
 }
 
-// The seven numbers are in range, in a machine with room for n directories: set-up's test too.
+fn counts(k: Conf) -> bool
+    ensures { λ r. ⌜ r ≡ goodCounts k ⌝ }
+{
+    is_between(1, k.directories, k.rq)
+        & is_between(1, k.directories, k.wq)
+        & ((k.directories as u64) < k.rq as u64 + k.wq as u64)
+        & (k.columns == 0)
+}
+
+fn columns(k: Conf) -> bool
+    ensures { λ r. ⌜ r ≡ goodColumns k ⌝ }
+{
+    if k.columns == 0 {
+        return false;
+    }
+    (2 <= k.directories)
+        & (k.columns <= k.directories)
+        & (k.directories % k.columns == 0)
+        & (k.rq == 0)
+        & (k.wq == 0)
+}
+
+// Counts or columns, by the rows for directories.
+fn quorums(n: u32, k: Conf) -> bool
+    ensures { λ r. ⌜ r ≡ (if inColumns n then goodColumns k else goodCounts k) ⌝ }
+{
+    if n == 16 { columns(k) } else { counts(k) }
+}
+
+// The numbers are in range, in a machine with room for n directories: set-up's test too.
 pub fn numbers(n: u32, k: Conf) -> bool
     ensures { λ r. ⌜ r ≡ goodNumbers n k ⌝ }
 {
@@ -35,9 +66,7 @@ pub fn numbers(n: u32, k: Conf) -> bool
         & is_between(1, 7, k.replicas)
         & (k.f <= 3)
         & (2 * (k.f as u64) + 1 <= k.replicas as u64)
-        & is_between(1, k.directories, k.rq)
-        & is_between(1, k.directories, k.wq)
-        & ((k.directories as u64) < k.rq as u64 + k.wq as u64)
+        & quorums(n, k)
         & is_between(3, 4294967295, k.top)
 }
 

@@ -1,10 +1,10 @@
 // The calls at the borders of document 01, "Also run", and a report: each line is a case and the code that the call answers, or a number of the report.
 mod say; // say.rt: lines of output
-mod set_up; // set_up.rt: the seven numbers, buffers, pages
+mod set_up; // set_up.rt: the numbers, buffers, pages
 mod wear; // wear.rt: WORN
 mod fill; // fill.rt: the 13th tag
 mod tell; // tell.rt: report
-mod wide; // wide.rt: the layout of 16 directory rows
+mod wide; // wide.rt: directories in columns
 
 fn main() {
     let mut m = [0u32; 5040];

@@ -13,6 +13,7 @@ pub fn conf(directories: u32, replicas: u32, f: u32, rq: u32, wq: u32, top: u32)
         rq,
         wq,
         top,
+        columns: 0,
     }
 }
 

@@ -12,6 +12,7 @@ fn conf(top: u32) -> Conf {
         rq: 1,
         wq: 1,
         top,
+        columns: 0,
     }
 }
 

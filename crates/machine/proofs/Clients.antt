@@ -23,6 +23,7 @@ use Rattle.tables.specs.Tables.{Page, noMessage, isEmpty, clientAt, withSlot}
 use Rattle.tables.specs.Words.{words}
 use Rattle.tables.specs.Machines.{confOf, machineOf}
 use Rattle.tables.proofs.Read.{clients-many}
+use Rattle.tables.proofs.Quorums.{columns-within}
 use Rattle.inspect.proofs.Facts.{NumbersFacts, ClientFacts, client-facts}
 use Rattle.inspect.proofs.Machines.{client-good, good-machine}
 use Rattle.rules.specs.declared.Answer.{Answer}
@@ -85,7 +86,10 @@ module _ {lay : Layout} {m : List ℕ} {s : ℕ} {x : Message} (g : Arrived lay 
       few-parties n h s l = below-two n 16 s l (omega arith)
 
       pub client-able : ClientAble k w x
-      client-able = record { few = numbers .few-crashes; room = facts .rounds; sender = g .sender }
+      client-able =
+          let n = numbers in
+          let d : k .directories ≤ 31 = omega (arith, n .few-directories) in
+          record { few = n .few-crashes; columns = omega (arith, columns-within k (n .quorums)); directories = d; room = facts .rounds; sender = g .sender }
 
       answered-few : Small (w .answered)
       answered-few =

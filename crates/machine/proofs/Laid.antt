@@ -133,7 +133,7 @@ words-blank d k t =
     rw (n, zeros-add 208 (d * 4 + 4764), zeros-add (d * 4) 4764, rows-zero d, append-nil t) (simp append-assoc)
 
 pub cleared : (lay : Layout) (k : Conf) (m a b : List ℕ) → a ≡ replicate (extent lay) 0 ++ drop (extent lay) m
-    → b ≡ put a 0 (k .clients ∷ k .directories ∷ k .replicas ∷ k .f ∷ k .rq ∷ k .wq ∷ k .top ∷ []) → b ≡ words (blank (lay .directories) k) (drop (extent lay) m)
+    → b ≡ put a 0 (k .clients ∷ k .directories ∷ k .replicas ∷ k .f ∷ k .rq ∷ k .wq ∷ k .top ∷ k .columns ∷ []) → b ≡ words (blank (lay .directories) k) (drop (extent lay) m)
 unfolding confWords
 cleared lay k m a b e f = f ∙ ap (λ (q : List ℕ). put q 0 (confWords k)) e ∙ words-blank (lay .directories) k (drop (extent lay) m)
 
@@ -185,7 +185,7 @@ module _ (lay : Layout) (k : Conf) (page : Page) where
       λ j.
       record {
         conf = k;
-        spare = replicate 9 0;
+        spare = replicate 8 0;
         clients = replicate 8 noClient;
         directories = rows-first (λ d. row-of) noDirectory (k .directories) (lay .directories) j;
         gap = replicate 5 0;

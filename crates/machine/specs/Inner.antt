@@ -60,7 +60,7 @@ unfoldable pub blank : ℕ → Conf → Machine
 blank n k =
     record {
       conf = k;
-      spare = replicate 9 0;
+      spare = replicate 8 0;
       clients = replicate 8 noClient;
       directories = replicate n noDirectory;
       gap = replicate 5 0;

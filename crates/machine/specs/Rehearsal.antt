@@ -46,7 +46,7 @@ d2 = deliver 2 (pageOf 0)
 -- S 1 1 1 0 1 1 6 7, W 1 9, six times D 1, R 1, six times D 2, R 1
 pub schedule : List Call
 schedule =
-    setUp (record { clients = 1; directories = 1; replicas = 1; f = 0; rq = 1; wq = 1; top = 6 }) (pageOf 7)
+    setUp (record { clients = 1; directories = 1; replicas = 1; f = 0; rq = 1; wq = 1; top = 6; columns = 0 }) (pageOf 7)
     ∷ startWrite 1 (pageOf 9) ∷ d1 ∷ d1 ∷ d1 ∷ d1 ∷ d1 ∷ d1
     ∷ startRead 1 ∷ d2 ∷ d2 ∷ d2 ∷ d2 ∷ d2 ∷ d2 ∷ startRead 1 ∷ []
 

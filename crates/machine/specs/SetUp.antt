@@ -20,7 +20,7 @@ unfoldable pub newMachine : ℕ → Conf → Page → Machine
 newMachine n k page =
     record {
       conf = k;
-      spare = replicate 9 0;
+      spare = replicate 8 0;
       clients = replicate 8 noClient;
       directories = map (firstDirectory k) (numbers 1 n);
       gap = replicate 5 0;

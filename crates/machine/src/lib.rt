@@ -8,7 +8,7 @@ use rules::Answer;
 use tables::BASE;
 use tables::Conf;
 
-pub mod wide; // wide.rt: the same calls on a machine with 16 directory rows
+pub mod wide; // wide.rt: the same calls on a machine whose directories stand in columns
 mod calls; // calls.rt: the calls in any layout
 mod send; // send.rt: the slots, lent to `mail`
 mod codes; // codes.rt: SIZE and BAD MACHINE
@@ -25,7 +25,7 @@ pub struct Counts {
     pub down: u32,
 }
 
-// Set-up, with the seven numbers and the first page.
+// Set-up, with the seven numbers, 0 for columns, and the first page.
 pub fn set_up(m: &mut [u32], k: Conf, page: &[u32]) -> Answer
     ensures { λ r. ⌜ Gives (call base (setUp k (now (page .entry))) (now (m .entry))) r [] (now (m .exit)) ⌝ }
 {

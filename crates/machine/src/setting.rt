@@ -37,13 +37,22 @@ fn zero(lay: Layout, m: &mut [u32])
     }
 }
 
-// Zeroes all but the seven numbers.
+// Zeroes all but the numbers.
 fn clear(lay: Layout, m: &mut [u32], k: Conf)
     requires { ⌜ Fits lay (now m) ⌝ }
     ensures { λ _. ⌜ now (m .exit) ≡ words (blank (lay .directories) k) (drop (extent lay) (now (m .entry))) ⌝ }
 {
     zero(lay, m);
-    let head = [k.clients, k.directories, k.replicas, k.f, k.rq, k.wq, k.top];
+    let head = [
+        k.clients,
+        k.directories,
+        k.replicas,
+        k.f,
+        k.rq,
+        k.wq,
+        k.top,
+        k.columns,
+    ];
     rows::copy_in(m, &head);
 }
 

@@ -1,4 +1,4 @@
-// The eight calls on a machine with 16 directory rows: 5,036 words.
+// The eight calls on a machine whose directories stand in columns: 16 rows for them, 5,036 words.
 ghost use mathlib.Core.Path.{_≡_};
 ghost use mathlib.Core.List.{[]};
 ghost use Rattle.tables.specs.Layouts.{wide};
@@ -10,7 +10,7 @@ use rules::Answer;
 use tables::Conf;
 use tables::WIDE;
 
-// Set-up, with the seven numbers and the first page.
+// Set-up, with clients, directories, replicas, f, columns and top, 0 for rq and wq, and the first page.
 pub fn set_up(m: &mut [u32], k: Conf, page: &[u32]) -> Answer
     ensures { λ r. ⌜ Gives (call wide (setUp k (now (page .entry))) (now (m .entry))) r [] (now (m .exit)) ⌝ }
 {

@@ -12,13 +12,13 @@ use Rattle.schedule.specs.Text.{answerText}
 use Rattle.schedule.specs.Input.{Held, commandsFrom, unfinished, malformedIf}
 use Rattle.schedule.specs.Inner.{Printed}
 use Rattle.rehearse.specs.declared.State.{State}
-use Rattle.rehearse.specs.Rehearsal.{printed, following, outputOf}
+use Rattle.rehearse.specs.Rehearsal.{Machines, printed, following, outputOf}
 use Rattle.rehearse.specs.Pieces.{ahead}
 use Rattle.rehearse.specs.Turns.{Goes, Consumed, Drained, Ended}
 use Rattle.rehearse.proofs.Turns.{goes-anew, goes-none, with, goes-with}
 
 -- lines that are written out
-pub is-out : (chunk : List ℕ) (s : State) (m l : List ℕ) (r : State) (m' l' out' : List ℕ) (b : Bool) → Consumed chunk s m l r m' l' out'
+pub is-out : (chunk : List ℕ) (s : State) (m : Machines) (l : List ℕ) (r : State) (m' : Machines) (l' out' : List ℕ) (b : Bool) → Consumed chunk s m l r m' l' out'
     → Consumed chunk s m l (with r (r .at) b) m' l' out'
 is-out chunk s m l r m' l' out' b g =
     record {
@@ -28,19 +28,19 @@ is-out chunk s m l r m' l' out' b g =
     }
 
 -- what was written out of a chunk so far
-pub record Written (chunk : List ℕ) (s : State) (m l : List ℕ) (r : State) (m' l' : List ℕ) : Type 0 where
+pub record Written (chunk : List ℕ) (s : State) (m : Machines) (l : List ℕ) (r : State) (m' : Machines) (l' : List ℕ) : Type 0 where
   pub text : List ℕ
   pub goes : Goes chunk s m l [] r m' l' text
 
-module _ (chunk : List ℕ) (s : State) (m l : List ℕ) where
+module _ (chunk : List ℕ) (s : State) (m : Machines) (l : List ℕ) where
   pub no-pass : s .from ≤ length chunk → Written chunk s m l s m l
   no-pass h = record { text = []; goes = goes-none chunk s m l [] h refl }
 
-  module _ (r : State) (m' l' : List ℕ) (g : Written chunk s m l r m' l') where
+  module _ (r : State) (m' : Machines) (l' : List ℕ) (g : Written chunk s m l r m' l') where
     pub within : r .from ≤ length chunk
     within = g .goes .high
 
-    pub one-pass : (t : State) (m'' l'' out'' : List ℕ) → Consumed chunk r m' l' t m'' l'' out'' → Written chunk s m l t m'' l''
+    pub one-pass : (t : State) (m'' : Machines) (l'' out'' : List ℕ) → Consumed chunk r m' l' t m'' l'' out'' → Written chunk s m l t m'' l''
     one-pass t m'' l'' out'' h =
         record {
           text = g .text ++ take (t .at) out'';
@@ -48,13 +48,13 @@ module _ (chunk : List ℕ) (s : State) (m l : List ℕ) where
         }
 
 -- a pass takes some bytes
-pub fewer : (chunk : List ℕ) (s : State) (m l : List ℕ) (r : State) (m' l' out' : List ℕ) → ltb (s .from) (length chunk) ≡ true
+pub fewer : (chunk : List ℕ) (s : State) (m : Machines) (l : List ℕ) (r : State) (m' : Machines) (l' out' : List ℕ) → ltb (s .from) (length chunk) ≡ true
     → Consumed chunk s m l r m' l' out' → length chunk - r .from < length chunk - s .from
 fewer chunk s m l r m' l' out' h g = omega (arith, ltb-true (s .from) (length chunk) h, g .some)
 
 -- all of a chunk
-pub drained : (chunk : List ℕ) (s : State) (m l : List ℕ) (r : State) (m' l' : List ℕ)
-    → Written chunk (record { lines = s .lines; len = s .len; from = 0; at = 0; on = true }) m l r m' l'
+pub drained : (chunk : List ℕ) (s : State) (m : Machines) (l : List ℕ) (r : State) (m' : Machines) (l' : List ℕ)
+    → Written chunk (record { lines = s .lines; len = s .len; from = 0; at = 0; on = true; wide = s .wide }) m l r m' l'
     → ltb (r .from) (length chunk) ≡ false → Drained chunk s m l r m' l'
 drained chunk s m l r m' l' g h =
     let e : r .from ≡ length chunk = omega (arith, g .goes .high, ltb-false (r .from) (length chunk) h) in
@@ -66,7 +66,7 @@ drained chunk s m l r m' l' g h =
           record { pending = b .pending; held = b .held; same = λ later. rw z at (b .same later) };
     }
 
-pub stopped : (chunk : List ℕ) (s : State) (m l : List ℕ) (r : State) (m' l' : List ℕ) → r .on ≡ false → Drained chunk s m l r m' l'
+pub stopped : (chunk : List ℕ) (s : State) (m : Machines) (l : List ℕ) (r : State) (m' : Machines) (l' : List ℕ) → r .on ≡ false → Drained chunk s m l r m' l'
 stopped chunk s m l r m' l' n = record { text = []; went = λ y. absurd (let z : _≡_ {A = ℕ} 0 1 = cc in omega arith) }
 
 -- the end of the input

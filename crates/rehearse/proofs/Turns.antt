@@ -13,7 +13,7 @@ use Rattle.schedule.specs.Lines.{commandOf}
 use Rattle.schedule.specs.Input.{Held, FedOn, commandsFrom}
 use Rattle.schedule.proofs.Pending.{held-none}
 use Rattle.rehearse.specs.declared.State.{State}
-use Rattle.rehearse.specs.Rehearsal.{callOf, outcomeOf, printed, outputOf}
+use Rattle.rehearse.specs.Rehearsal.{Machines, outcomeOf, printed, outputOf}
 use Rattle.rehearse.specs.Pieces.{ahead}
 use Rattle.rehearse.specs.Turns.{Answered, stand, Goes, Turned, Consumed}
 
@@ -22,16 +22,16 @@ pub part : (out : List ℕ) (at : ℕ) → length out ≡ 65536 → at ≤ 65536
 part out at e h = sym (length-take-le at out (omega arith))
 
 -- the answered command is the first of those to come
-pub first-of : (c : Command) (m out : List ℕ) (s : State) (m' out' : List ℕ) (r : State) → Answered c m out s m' out' r → (cs : List Command)
+pub first-of : (c : Command) (m : Machines) (out : List ℕ) (s : State) (m' : Machines) (out' : List ℕ) (r : State) → Answered c m out s m' out' r → (cs : List Command)
     → take (s .at) out ++ outputOf (s .lines) m (c ∷ cs) ≡ take (r .at) out' ++ outputOf (r .lines) m' cs
 unfolding outputOf
 first-of c m out s m' out' r a cs =
-    rw (← a .lines, a .machine, a .text) (sym (append-assoc (take (s .at) out) (printed (r .lines) (outcomeOf (callOf c) m)) _))
+    rw (← a .lines, a .machines, a .text) (sym (append-assoc (take (s .at) out) (printed (r .lines) (outcomeOf c m)) _))
 
 -- a turn
-module _ (chunk : List ℕ) (s : State) (m l out l' : List ℕ) (f : Fed) (w : FedOn l (s .len) chunk (s .from) l' f) where
+module _ (chunk : List ℕ) (s : State) (m : Machines) (l out l' : List ℕ) (f : Fed) (w : FedOn l (s .len) chunk (s .from) l' f) where
   abbrev fed : State
-  fed = record { lines = s .lines; len = f .len; from = f .at; at = s .at; on = false }
+  fed = record { lines = s .lines; len = f .len; from = f .at; at = s .at; on = false; wide = s .wide }
 
   pub rest : f .ended ≡ false → s .at ≤ 65410 → Turned chunk s m l out fed m l' out
   unfolding ahead
@@ -48,7 +48,7 @@ module _ (chunk : List ℕ) (s : State) (m l out l' : List ℕ) (f : Fed) (w : F
           ≡ take (s .at) out ++ outputOf (s .lines) m (commandsFrom (p ++ w .added) (drop (f .at) chunk ++ later))
       same p later = ap (λ (cs : List Command). take (s .at) out ++ outputOf (s .lines) m cs) (rw n at (w .same p later))
 
-  pub met : f .ended ≡ true → (c : Command) → ((p : List ℕ) → Held p l' (f .len) → c ≡ commandOf p) → (m' out' : List ℕ) (r : State)
+  pub met : f .ended ≡ true → (c : Command) → ((p : List ℕ) → Held p l' (f .len) → c ≡ commandOf p) → (m' : Machines) (out' : List ℕ) (r : State)
       → Answered c m out fed m' out' r → Turned chunk s m l out r m' l' out'
   unfolding ahead
   met n c e m' out' r a =
@@ -73,7 +73,7 @@ module _ (chunk : List ℕ) (s : State) (m l out l' : List ℕ) (f : Fed) (w : F
           ∙ rw (← e (p ++ w .added) (w .held p g), a .place) (first-of c m out fed m' out' r a _)
 
 -- two ways one after the other, and one that began a new text
-module _ (chunk : List ℕ) (s r t : State) (m l w m' l' v m'' l'' x : List ℕ) (g : Goes chunk s m l w r m' l' v) where
+module _ (chunk : List ℕ) (s r t : State) (m : Machines) (l w : List ℕ) (m' : Machines) (l' v : List ℕ) (m'' : Machines) (l'' x : List ℕ) (g : Goes chunk s m l w r m' l' v) where
   pub goes-on : Goes chunk r m' l' v t m'' l'' x → Goes chunk s m l w t m'' l'' x
   goes-on h =
       record {
@@ -101,15 +101,15 @@ module _ (chunk : List ℕ) (s r t : State) (m l w m' l' v m'' l'' x : List ℕ)
             };
       }
 
-pub goes-none : (chunk : List ℕ) (s : State) (m l v : List ℕ) → s .from ≤ length chunk → v ≡ [] → Goes chunk s m l [] s m l v
+pub goes-none : (chunk : List ℕ) (s : State) (m : Machines) (l v : List ℕ) → s .from ≤ length chunk → v ≡ [] → Goes chunk s m l [] s m l v
 goes-none chunk s m l v h e =
     record { low = omega arith; high = h; went = λ p g. record { pending = p; held = g; same = λ later. rw e } }
 
 -- a state's lines, pending line and place are all that counts
 abbrev pub with : State → ℕ → Bool → State
-with s at on = record { lines = s .lines; len = s .len; from = s .from; at = at; on = on }
+with s at on = record { lines = s .lines; len = s .len; from = s .from; at = at; on = on; wide = s .wide }
 
-pub goes-with : (chunk : List ℕ) (s r : State) (m l w m' l' v : List ℕ) (a b : ℕ) (x y : Bool) → Goes chunk s m l w r m' l' v
+pub goes-with : (chunk : List ℕ) (s r : State) (m : Machines) (l w : List ℕ) (m' : Machines) (l' v : List ℕ) (a b : ℕ) (x y : Bool) → Goes chunk s m l w r m' l' v
     → Goes chunk (with s a x) m l w (with r b y) m' l' v
 goes-with chunk s r m l w m' l' v a b x y g =
     record {
@@ -119,13 +119,13 @@ goes-with chunk s r m l w m' l' v a b x y g =
     }
 
 -- turns over a chunk
-pub record Consuming (chunk : List ℕ) (s : State) (m l : List ℕ) (r : State) (m' l' out' : List ℕ) : Type 0 where
+pub record Consuming (chunk : List ℕ) (s : State) (m : Machines) (l : List ℕ) (r : State) (m' : Machines) (l' out' : List ℕ) : Type 0 where
   pub goes : Goes chunk s m l [] r m' l' (take (r .at) out')
   pub some : r .on ≡ false → min (s .from + 1) (length chunk) ≤ r .from
   pub room : r .at ≤ 65536
   pub space : r .on ≡ true → r .at ≤ 65410
 
-module _ (chunk : List ℕ) (s : State) (m l : List ℕ) where
+module _ (chunk : List ℕ) (s : State) (m : Machines) (l : List ℕ) where
   pub no-turn : (out : List ℕ) → s .from ≤ length chunk → s .at ≡ 0 → s .on ≡ true → Consuming chunk s m l s m l out
   no-turn out h e n =
       record {
@@ -135,11 +135,11 @@ module _ (chunk : List ℕ) (s : State) (m l : List ℕ) where
         space = λ y. omega (arith, e);
       }
 
-  module _ (r : State) (m' l' out' : List ℕ) (g : Consuming chunk s m l r m' l' out') where
+  module _ (r : State) (m' : Machines) (l' out' : List ℕ) (g : Consuming chunk s m l r m' l' out') where
     pub has-space : r .on ≡ true → r .at ≤ 65410
     has-space n = g .space n
 
-    pub one-turn : (t : State) (m'' l'' out'' : List ℕ) → Turned chunk r m' l' out' t m'' l'' out'' → Consuming chunk s m l t m'' l'' out''
+    pub one-turn : (t : State) (m'' : Machines) (l'' out'' : List ℕ) → Turned chunk r m' l' out' t m'' l'' out'' → Consuming chunk s m l t m'' l'' out''
     one-turn t m'' l'' out'' h =
         record {
           goes = goes-on chunk s r t m l [] m' l' (take (r .at) out') m'' l'' (take (t .at) out'') (g .goes) (h .goes);
@@ -148,7 +148,7 @@ module _ (chunk : List ℕ) (s : State) (m l : List ℕ) where
           space = h .space;
         }
 
-pub consumed : (chunk : List ℕ) (s : State) (m l : List ℕ) (r : State) (m' l' out' : List ℕ) → Consuming chunk (with s 0 true) m l r m' l' out'
+pub consumed : (chunk : List ℕ) (s : State) (m : Machines) (l : List ℕ) (r : State) (m' : Machines) (l' out' : List ℕ) → Consuming chunk (with s 0 true) m l r m' l' out'
     → r .on ≡ false → Consumed chunk s m l r m' l' out'
 consumed chunk s m l r m' l' out' g n =
     record {
@@ -158,7 +158,7 @@ consumed chunk s m l r m' l' out' g n =
     }
 
 -- a turn takes some bytes, or is the last
-pub less : (chunk : List ℕ) (s : State) (m l out : List ℕ) (r : State) (m' l' out' : List ℕ) → s .on ≡ true → Turned chunk s m l out r m' l' out'
+pub less : (chunk : List ℕ) (s : State) (m : Machines) (l out : List ℕ) (r : State) (m' : Machines) (l' out' : List ℕ) → s .on ≡ true → Turned chunk s m l out r m' l' out'
     → (length chunk - r .from) + (if r .on then 1 else 0) < (length chunk - s .from) + (if s .on then 1 else 0)
 less chunk s m l out r m' l' out' e w = go (r .on) refl
   where

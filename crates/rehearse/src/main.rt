@@ -1,19 +1,26 @@
-// Runs a schedule: each line of standard input is a call on one machine, answered by a line on standard output.
+// Runs a schedule: each line of standard input is a call on one of two machines, answered by a line on standard output.
 ghost use mathlib.Core.Path.{_≡_};
-ghost use mathlib.Core.Bool.{true};
+ghost use mathlib.Core.Bool.{true, false};
 ghost use Prim.Native.Nat.{_+_, _≤_};
 ghost use lib.ListN.{length};
 ghost use Rattle.schedule.specs.Text.{answerText};
 ghost use Rattle.schedule.specs.Inner.{Printed};
-ghost use Rattle.rehearse.specs.Rehearsal.{pageOf, following};
-ghost use Rattle.rehearse.specs.Pieces.{start};
-ghost use Rattle.rehearse.specs.Turns.{Buffers, Responded, Answered, Turned, Consumed, Drained, Fresh, Ended, Rehearsed};
+ghost use Rattle.rehearse.specs.Rehearsal.{machines, zeros, inForce, following};
+ghost use Rattle.rehearse.specs.Turns.{Buffers, Answered, Turned, Consumed, Drained, Fresh, Ended, Rehearsed};
 use libc::STDERR_FILENO;
 use rules::Answer;
 use schedule::Command;
 use schedule::input;
 use schedule::printing;
-use tables::Conf;
+
+mod calls; // calls.rt: the call that a line is, on the machine that it names
+
+// What a call gave: its answer, the first word of its page, and whether it was made on the wide machine.
+struct Reply {
+    answer: Answer,
+    word: u32,
+    wide: bool,
+}
 
 // Where the program stands.
 struct State {
@@ -22,14 +29,7 @@ struct State {
     from: usize, // the place in the chunk
     at: usize, // the output's length
     on: bool, // whether it goes on
-}
-
-// "w is the page's first word, the others are zero."
-fn page(w: u32) -> [u32; 16]
-    ensures { λ r. ⌜ 16 ≡ length r ⌝ }
-    ensures { λ r. ⌜ r ≡ pageOf w ⌝ }
-{
-    [w, 0, 0, 0, 0, 0, 0, 0, 0, 0, 0, 0, 0, 0, 0, 0]
+    wide: bool, // whether the wide machine is in force
 }
 
 // The line that answers a call.
@@ -41,42 +41,6 @@ fn put(out: &mut [u8], at: usize, line: u64, a: Answer, word: u32) -> usize
     printing::put_answer(out, at, line, a.code, a.client, t.number, t.client, word)
 }
 
-// Makes the call that a command is, and prints its answer.
-fn respond(m: &mut [u32], c: Command, out: &mut [u8], at: usize, line: u64) -> usize
-    requires { ⌜ at + 126 ≤ length (now out) ⌝ }
-    ensures { λ r. ⌜ Responded line c (now (m .entry)) (now (out .entry)) at (now (m .exit)) (now (out .exit)) r ⌝ }
-{
-    match c {
-        Command::SetUp(clients, directories, replicas, f, rq, wq, top, w) => {
-            let first = page(w);
-            let k = Conf {
-                clients,
-                directories,
-                replicas,
-                f,
-                rq,
-                wq,
-                top,
-            };
-            put(out, at, line, machine::set_up(m, k, &first), 0)
-        }
-        Command::Read(client) => put(out, at, line, machine::start_read(m, client), 0),
-        Command::Write(client, w) => {
-            let new = page(w);
-            put(out, at, line, machine::start_write(m, client, &new), 0)
-        }
-        Command::Deliver(slot) => {
-            let mut filled = page(0);
-            let a = machine::deliver(m, slot, &mut filled);
-            put(out, at, line, a, filled[0])
-        }
-        Command::Gossip(from, to) => put(out, at, line, machine::gossip(m, from, to), 0),
-        Command::Tidy(replica) => put(out, at, line, machine::tidy(m, replica), 0),
-        Command::Crash(kind, id) => put(out, at, line, machine::crash(m, kind, id), 0),
-        Command::Malformed => printing::put_malformed(out, at, line),
-    }
-}
-
 // The number of the line after k lines.
 fn next(k: u64) -> u64
     ensures { λ r. ⌜ r ≡ following k ⌝ }
@@ -84,27 +48,45 @@ fn next(k: u64) -> u64
     if k < 18446744073709551615 { k + 1 } else { k }
 }
 
+// Whether the wide machine is in force after a line with this code: `named` says whether the line named it, `before` whether it was before.
+fn in_force(code: u32, named: bool, before: bool) -> bool
+    ensures { λ r. ⌜ r ≡ inForce code named before ⌝ }
+{
+    if code == 0 { named } else { before }
+}
+
 // Answers a line.
-fn answer(m: &mut [u32], c: Command, out: &mut [u8], s: State) -> State
+fn answer(m: &mut [u32], w: &mut [u32], c: Command, out: &mut [u8], s: State) -> State
     requires { ⌜ (length (now out) ≡ 65536) × (s .at ≤ 65410) ⌝ }
-    ensures { λ r. ⌜ Answered c (now (m .entry)) (now (out .entry)) s (now (m .exit)) (now (out .exit)) r ⌝ }
+    ensures { λ r. ⌜ Answered c (machines (s .wide) (now (m .entry)) (now (w .entry))) (now (out .entry)) s (machines (r .wide) (now (m .exit)) (now (w .exit))) (now (out .exit)) r ⌝ }
 {
     let lines = next(s.lines);
-    let at = respond(m, c, out, s.at, lines);
+    let r = calls::reply(m, w, s.wide, c);
+    let a = r.answer;
+    let wide = in_force(a.code, r.wide, s.wide);
+    let at = put(out, s.at, lines, a, r.word);
     State {
         lines,
         len: 0,
         from: s.from,
         at,
         on: at <= 65410,
+        wide,
     }
 }
 
 // One line, or the rest of the chunk.
-fn turn(m: &mut [u32], line: &mut [u8], out: &mut [u8], chunk: &[u8], s: State) -> State
+fn turn(
+    m: &mut [u32],
+    w: &mut [u32],
+    line: &mut [u8],
+    out: &mut [u8],
+    chunk: &[u8],
+    s: State,
+) -> State
     requires { ⌜ Buffers (now line) (now out) ⌝ }
     requires { ⌜ (s .at ≤ 65410) × (s .from ≤ length (now chunk)) ⌝ }
-    ensures { λ r. ⌜ Turned (now (chunk .entry)) s (now (m .entry)) (now (line .entry)) (now (out .entry)) r (now (m .exit)) (now (line .exit)) (now (out .exit)) ⌝ }
+    ensures { λ r. ⌜ Turned (now (chunk .entry)) s (machines (s .wide) (now (m .entry)) (now (w .entry))) (now (line .entry)) (now (out .entry)) r (machines (r .wide) (now (m .exit)) (now (w .exit))) (now (line .exit)) (now (out .exit)) ⌝ }
 {
     let f = input::feed(line, s.len, chunk, s.from);
     let ended = f.ended;
@@ -114,18 +96,26 @@ fn turn(m: &mut [u32], line: &mut [u8], out: &mut [u8], chunk: &[u8], s: State) 
         from: f.at,
         at: s.at,
         on: false,
+        wide: s.wide,
     };
     if ended {
-        return answer(m, input::command(line, f.len), out, t);
+        return answer(m, w, input::command(line, f.len), out, t);
     }
     t
 }
 
 // The lines of a chunk from a place on, until it ends or the output is full.
-fn consume(m: &mut [u32], line: &mut [u8], out: &mut [u8], chunk: &[u8], s0: State) -> State
+fn consume(
+    m: &mut [u32],
+    w: &mut [u32],
+    line: &mut [u8],
+    out: &mut [u8],
+    chunk: &[u8],
+    s0: State,
+) -> State
     requires { ⌜ Buffers (now line) (now out) ⌝ }
     requires { ⌜ s0 .from ≤ length (now chunk) ⌝ }
-    ensures { λ r. ⌜ Consumed (now (chunk .entry)) s0 (now (m .entry)) (now (line .entry)) r (now (m .exit)) (now (line .exit)) (now (out .exit)) ⌝ }
+    ensures { λ r. ⌜ Consumed (now (chunk .entry)) s0 (machines (s0 .wide) (now (m .entry)) (now (w .entry))) (now (line .entry)) r (machines (r .wide) (now (m .exit)) (now (w .exit))) (now (line .exit)) (now (out .exit)) ⌝ }
 {
     let mut s = State {
         lines: s0.lines,
@@ -133,9 +123,10 @@ fn consume(m: &mut [u32], line: &mut [u8], out: &mut [u8], chunk: &[u8], s0: Sta
         from: s0.from,
         at: 0,
         on: true,
+        wide: s0.wide,
     };
     while s.on {
-        s = turn(m, line, out, chunk, s);
+        s = turn(m, w, line, out, chunk, s);
     }
     s
 }
@@ -148,25 +139,40 @@ fn flush(out: &[u8], at: usize) -> bool
 }
 
 // The same, and writes their answers out: where that fails it does not go on.
-fn pass(m: &mut [u32], line: &mut [u8], out: &mut [u8], chunk: &[u8], s: State) -> State
+fn pass(
+    m: &mut [u32],
+    w: &mut [u32],
+    line: &mut [u8],
+    out: &mut [u8],
+    chunk: &[u8],
+    s: State,
+) -> State
     requires { ⌜ Buffers (now line) (now out) ⌝ }
     requires { ⌜ s .from ≤ length (now chunk) ⌝ }
-    ensures { λ r. ⌜ Consumed (now (chunk .entry)) s (now (m .entry)) (now (line .entry)) r (now (m .exit)) (now (line .exit)) (now (out .exit)) ⌝ }
+    ensures { λ r. ⌜ Consumed (now (chunk .entry)) s (machines (s .wide) (now (m .entry)) (now (w .entry))) (now (line .entry)) r (machines (r .wide) (now (m .exit)) (now (w .exit))) (now (line .exit)) (now (out .exit)) ⌝ }
 {
-    let t = consume(m, line, out, chunk, s);
+    let t = consume(m, w, line, out, chunk, s);
     State {
         lines: t.lines,
         len: t.len,
         from: t.from,
         at: t.at,
         on: flush(out, t.at),
+        wide: t.wide,
     }
 }
 
 // All of a chunk.
-fn drain(m: &mut [u32], line: &mut [u8], out: &mut [u8], chunk: &[u8], s0: State) -> State
+fn drain(
+    m: &mut [u32],
+    w: &mut [u32],
+    line: &mut [u8],
+    out: &mut [u8],
+    chunk: &[u8],
+    s0: State,
+) -> State
     requires { ⌜ Buffers (now line) (now out) ⌝ }
-    ensures { λ r. ⌜ Drained (now (chunk .entry)) s0 (now (m .entry)) (now (line .entry)) r (now (m .exit)) (now (line .exit)) ⌝ }
+    ensures { λ r. ⌜ Drained (now (chunk .entry)) s0 (machines (s0 .wide) (now (m .entry)) (now (w .entry))) (now (line .entry)) r (machines (r .wide) (now (m .exit)) (now (w .exit))) (now (line .exit)) ⌝ }
 {
     let mut s = State {
         lines: s0.lines,
@@ -174,9 +180,10 @@ fn drain(m: &mut [u32], line: &mut [u8], out: &mut [u8], chunk: &[u8], s0: State
         from: 0,
         at: 0,
         on: true,
+        wide: s0.wide,
     };
     while s.on && s.from < chunk.len() {
-        s = pass(m, line, out, chunk, s);
+        s = pass(m, w, line, out, chunk, s);
     }
     s
 }
@@ -202,15 +209,16 @@ fn fresh() -> State
         from: 0,
         at: 0,
         on: true,
+        wide: false,
     }
 }
 
 // Reads the input piece by piece; true where nothing more is to be read and the last of the output is written.
 // That `chunk` has what is read, and `out` what is written, is the C library's.
-fn run(m: &mut [u32], line: &mut [u8], out: &mut [u8], chunk: &mut [u8]) -> bool
-    requires { ⌜ now m ≡ start .machine ⌝ }
+fn run(m: &mut [u32], w: &mut [u32], line: &mut [u8], out: &mut [u8], chunk: &mut [u8]) -> bool
+    requires { ⌜ machines false (now m) (now w) ≡ zeros ⌝ }
     requires { ⌜ Buffers (now line) (now out) ⌝ }
-    ensures { λ r. ⌜ (r ≡ true → Rehearsed (now (m .exit)) (now (line .exit)) (now (out .exit))) ⌝ }
+    ensures { λ r. ⌜ (r ≡ true → Rehearsed (now (m .exit)) (now (w .exit)) (now (line .exit)) (now (out .exit))) ⌝ }
 {
     let mut turns = u64::MAX;
     let mut s = fresh();
@@ -221,7 +229,7 @@ fn run(m: &mut [u32], line: &mut [u8], out: &mut [u8], chunk: &mut [u8]) -> bool
             return flush(out, at);
         }
         let n = io::count(got, chunk);
-        s = drain(m, line, out, &chunk[..n], s);
+        s = drain(m, w, line, out, &chunk[..n], s);
         turns -= 1;
     }
     false
@@ -230,10 +238,11 @@ fn run(m: &mut [u32], line: &mut [u8], out: &mut [u8], chunk: &mut [u8]) -> bool
 // The whole schedule, from zero words; where the output fails, standard error has a sentence and the system's reason.
 fn rehearse() {
     let mut m = [0u32; 4992];
+    let mut w = [0u32; 5036];
     let mut line = [0u8; 80];
     let mut out = [0u8; 65536];
     let mut chunk = [0u8; 65536];
-    if !run(&mut m, &mut line, &mut out, &mut chunk) {
+    if !run(&mut m, &mut w, &mut line, &mut out, &mut chunk) {
         os::fail(b"rehearse: the output could not be written");
     }
 }

@@ -3,6 +3,7 @@ pub mod Cases
 pub mod Stock
 pub mod Entries
 pub mod Marks
+pub mod Columns
 pub mod Enough
 pub mod DirectoryViews
 pub mod Heard

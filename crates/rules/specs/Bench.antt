@@ -59,7 +59,7 @@ secured n c = entry 2 (tag n c) noPage
 -- client 1 in its phase 4 gets the only reply that it waits for
 abbrev pub hears : (top greatest : ℕ) → Outcome
 hears top n =
-    outcome (record { clients = 1; directories = 1; replicas = 3; f = 1; rq = 1; wq = 1; top = top }) 1
+    outcome (record { clients = 1; directories = 1; replicas = 3; f = 1; rq = 1; wq = 1; top = top; columns = 0 }) 1
     (record { down = 0; phase = 4; number = 1; answered = 0; replicas = 0; tag = first; spare = 0; page = noPage })
     (toReceiver (message 7 1 (tag n 1) 0 1 noPage) 1)
 

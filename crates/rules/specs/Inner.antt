@@ -1,11 +1,13 @@
 -- What the rules ask of their caller, no more than every good machine gives, and what inner functions give. Nothing of the paper stands here.
+use mathlib.Core.Bool.{Bool, true, false, not}
 use mathlib.Core.List.{List, [], _∷_}
 use mathlib.Core.Path.{_≡_}
 use lib.Dec.{eqb}
 use lib.ListN.{length}
 use Rattle.sets.specs.Plain.{if_then_else_}
 use Rattle.sets.specs.Tags.{lower}
-use Prim.Native.Nat.{ℕ, _+_, _≤_, _<_}
+use Rattle.sets.specs.Sets.{has, with}
+use Prim.Native.Nat.{ℕ, _+_, _-_, _%_, _≤_, _<_}
 use Rattle.sets.specs.declared.Tag.{Tag}
 use Rattle.tables.specs.declared.Conf.{Conf}
 use Rattle.tables.specs.declared.Client.{Client}
@@ -33,6 +35,8 @@ pub record ReplicaAble (nd : ℕ) (l : List ℕ) (x : Message) : Type 0 where
 -- message numbers enough for the rounds to come
 pub record ClientAble (k : Conf) (w : Client) (x : Message) : Type 0 where
   pub few : k .f ≤ 3
+  pub columns : k .columns ≤ 31
+  pub directories : k .directories ≤ 31
   pub room : w .number + roundsLeft (w .phase) ≤ k .top
   pub sender : Sender (x .sender)
 
@@ -56,3 +60,19 @@ unfoldable pub freeMarked : List ℕ → List Entry → List Entry
 freeMarked [] es = es
 freeMarked (n ∷ ns) [] = []
 freeMarked (n ∷ ns) (e ∷ es) = (if eqb n 1 then noEntry else e) ∷ freeMarked ns es
+
+-- some columns, and no more of them and of directories than a set can hold
+pub record FewColumns (k : Conf) : Type 0 where
+  pub some : 1 ≤ k .columns
+  pub columns : k .columns ≤ 31
+  pub directories : k .directories ≤ 31
+
+-- directory d is in s, or, where `inside` is false, out of it
+abbrev pub stands : (s : ℕ) → (inside : Bool) → ℕ → Bool
+stands s true d = has s d
+stands s false d = not (has s d)
+
+-- the columns in which one of the directories passes the test, and those of `known`; as a set, column j is party j + 1
+unfoldable pub met : (columns : ℕ) → (ℕ → Bool) → (known : ℕ) → List ℕ → ℕ
+met columns t known [] = known
+met columns t known (d ∷ ds) = met columns t (if t d then with known ((d - 1) % columns + 1) else known) ds

@@ -2,10 +2,10 @@
 ghost use mathlib.Core.Path.{_≡_};
 ghost use Prim.Native.Nat.{_≤_};
 ghost use Rattle.sets.specs.Tags.{against};
-ghost use Rattle.rules.specs.Quorums.{enoughToRead, enoughToWrite};
 ghost use Rattle.rules.specs.Client.{awaited, enoughFor, isStale, gathered, raised, heard, chosen, turned, outcome};
 ghost use Rattle.rules.specs.Inner.{Sender, ClientAble};
 use crate::Outcome;
+use crate::quorums;
 use sets::Order;
 use sets::Tag;
 use tables::Client;
@@ -27,26 +27,14 @@ fn awaits(phase: u32) -> u32
     }
 }
 
-fn can_read(k: Conf, s: u32) -> bool
-    ensures { λ r. ⌜ r ≡ enoughToRead k s ⌝ }
-{
-    k.rq <= sets::size_of(s)
-}
-
-fn can_write(k: Conf, s: u32) -> bool
-    ensures { λ r. ⌜ r ≡ enoughToWrite k s ⌝ }
-{
-    k.wq <= sets::size_of(s)
-}
-
 // Whether the parties in s are enough for a phase.
 fn enough(k: Conf, phase: u32, s: u32) -> bool
-    requires { ⌜ k .f ≤ 3 ⌝ }
+    requires { ⌜ (k .f ≤ 3) × (k .columns ≤ 31) × (k .directories ≤ 31) ⌝ }
     ensures { λ r. ⌜ r ≡ enoughFor k phase s ⌝ }
 {
     match phase {
-        1 | 4 => can_read(k, s),
-        2 | 6 => can_write(k, s),
+        1 | 4 => quorums::can_read(k, s),
+        2 | 6 => quorums::can_write(k, s),
         5 => k.f + 1 <= sets::size_of(s),
         _ => true,
     }

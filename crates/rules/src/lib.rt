@@ -4,6 +4,7 @@ use sets::Tag;
 pub mod directory; // directory.rt: kinds 1 to 4 and 14
 pub mod replica; // replica.rt: kinds 9 to 11 and 15, gossip
 pub mod tidy; // tidy.rt
+mod quorums; // quorums.rt: when an answered set of directories is enough
 pub mod client; // client.rt: what a reply leads to
 pub mod request; // request.rt: the client's row afterwards, and what it sends
 pub mod answers; // answers.rt: codes and values

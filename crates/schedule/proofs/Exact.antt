@@ -10,7 +10,7 @@ use borrow.Author.Tests.{le-ltb, ltb-false, eqb-true}
 use Rattle.sets.specs.Plain.{if_then_else_}
 use Rattle.sets.proofs.Tests.{T-true, T-false, if-ind}
 use Rattle.schedule.specs.declared.Command.{Command}
-use Rattle.schedule.specs.declared.Command.the-variants.{SetUp, Read, Write, Deliver, Gossip, Tidy, Crash, Malformed}
+use Rattle.schedule.specs.declared.Command.the-variants.{SetUp, Columns, Read, Write, Deliver, Gossip, Tidy, Crash, Malformed}
 use Rattle.schedule.specs.Text.{fieldsIn, letterOf, text}
 use Rattle.schedule.specs.Lines.{IsText, Numbers, none, some, after, numbersOf, pick, pickAll, saidBy, commandOf}
 use Rattle.schedule.proofs.Scan.{too-many}
@@ -37,7 +37,7 @@ picked b (a ∷ c ∷ d ∷ []) = no-name b _
 picked b (a ∷ c ∷ d ∷ e ∷ []) = no-name b _
 picked b (a ∷ c ∷ d ∷ e ∷ f ∷ []) = no-name b _
 picked b (a ∷ c ∷ d ∷ e ∷ f ∷ g ∷ []) = no-name b _
-picked b (a ∷ c ∷ d ∷ e ∷ f ∷ g ∷ h ∷ []) = no-name b _
+picked b (a ∷ c ∷ d ∷ e ∷ f ∷ g ∷ h ∷ []) = named b 67 _ (Columns a c d e f g h) _ refl refl (no-name b _)
 picked b (a ∷ c ∷ d ∷ e ∷ f ∷ g ∷ h ∷ i ∷ []) = named b 83 _ (SetUp a c d e f g h i) _ refl refl (no-name b _)
 picked b (a ∷ c ∷ d ∷ e ∷ f ∷ g ∷ h ∷ i ∷ j ∷ l) =
     λ k. absurd (k (sym (too-many b (some (a ∷ c ∷ d ∷ e ∷ f ∷ g ∷ h ∷ i ∷ j ∷ l)) (omega arith))))
@@ -45,6 +45,7 @@ picked b (a ∷ c ∷ d ∷ e ∷ f ∷ g ∷ h ∷ i ∷ j ∷ l) =
 pick-back : (c : Command) → pick (letterOf c) (length (fieldsIn c)) (fieldsIn c) ≡ c
 unfolding pick
 pick-back (SetUp a b c d e f g w) = refl
+pick-back (Columns a b c d e f w) = refl
 pick-back (Read a) = refl
 pick-back (Write a w) = refl
 pick-back (Deliver s) = refl
@@ -83,6 +84,7 @@ text-is-command l c t =
 -- every other line is malformed
 malformed? : (c : Command) → (c ≡ Malformed) ⊎ (c ≡ Malformed → ⊥)
 malformed? (SetUp a b c d e f g w) = inr (λ e. omega (arith, ap letterOf e))
+malformed? (Columns a b c d e f w) = inr (λ e. omega (arith, ap letterOf e))
 malformed? (Read a) = inr (λ e. omega (arith, ap letterOf e))
 malformed? (Write a w) = inr (λ e. omega (arith, ap letterOf e))
 malformed? (Deliver s) = inr (λ e. omega (arith, ap letterOf e))

@@ -1,7 +1,7 @@
--- The paper's input in short, lines that are refused, and answers of its output.
+-- The paper's input in short, a set-up line with columns, lines that are refused, and answers of its output.
 use mathlib.Core.Path.{_≡_, refl}
 use mathlib.Core.List.{[], _∷_}
-use Rattle.schedule.specs.declared.Command.the-variants.{SetUp, Read, Write, Deliver, Malformed}
+use Rattle.schedule.specs.declared.Command.the-variants.{SetUp, Columns, Read, Write, Deliver, Malformed}
 use Rattle.schedule.specs.Text.{decimalIn, decimal, fieldsText, answerText}
 use Rattle.schedule.specs.Lines.{numbersOf, pick, pickAll, saidBy, commandOf}
 use Rattle.schedule.specs.Input.{commandsFrom, commandsOf}
@@ -17,6 +17,11 @@ pub input-read :
     ≡ SetUp 1 1 1 0 1 1 6 7 ∷ Write 1 9 ∷ Deliver 1 ∷ Read 1 ∷ []
 unfolding numbersOf pick pickAll saidBy commandOf commandsFrom
 input-read = refl
+
+-- `C 1 2 1 0 1 6 7`
+pub columns-read : commandsOf (67 ∷ 32 ∷ 49 ∷ 32 ∷ 50 ∷ 32 ∷ 49 ∷ 32 ∷ 48 ∷ 32 ∷ 49 ∷ 32 ∷ 54 ∷ 32 ∷ 55 ∷ 10 ∷ []) ≡ Columns 1 2 1 0 1 6 7 ∷ []
+unfolding numbersOf pick pickAll saidBy commandOf commandsFrom
+columns-read = refl
 
 -- `D 01`, `D  1`, `D 1` and CR, `D 4294967296`, an empty line, and `D 1` without LF
 pub input-refused :

@@ -105,6 +105,10 @@ module _ (b : ℕ) (v : List ℕ) where
   unfolding pick
   no-eight e f = rw e (simp (ne-eqb b 83 f))
 
+  pub no-seven : length v ≡ 7 → (b ≡ 67 → ⊥) → Malformed ≡ pick b (length v) v
+  unfolding pick
+  no-seven e f = rw e (simp (ne-eqb b 67 f))
+
   pub no-one : length v ≡ 1 → (b ≡ 82 → ⊥) → (b ≡ 68 → ⊥) → (b ≡ 84 → ⊥) → Malformed ≡ pick b (length v) v
   unfolding pick
   no-one e x y z = rw e (simp (ne-eqb b 82 x, ne-eqb b 68 y, ne-eqb b 84 z))
@@ -113,9 +117,9 @@ module _ (b : ℕ) (v : List ℕ) where
   unfolding pick
   no-two e x y z = rw e (simp (ne-eqb b 87 x, ne-eqb b 71 y, ne-eqb b 88 z))
 
-  pub no-count : (length v ≡ 8 → ⊥) → (length v ≡ 1 → ⊥) → (length v ≡ 2 → ⊥) → Malformed ≡ pick b (length v) v
+  pub no-count : (length v ≡ 8 → ⊥) → (length v ≡ 7 → ⊥) → (length v ≡ 1 → ⊥) → (length v ≡ 2 → ⊥) → Malformed ≡ pick b (length v) v
   unfolding pick
-  no-count x y z = simp (ne-eqb (length v) 8 x, ne-eqb (length v) 1 y, ne-eqb (length v) 2 z)
+  no-count w x y z = simp (ne-eqb (length v) 8 w, ne-eqb (length v) 7 x, ne-eqb (length v) 1 y, ne-eqb (length v) 2 z)
 
 -- numbers and then more
 abbrev join : List ℕ → Numbers → Numbers
@@ -146,7 +150,7 @@ join-beyond ms (some ns) h = simp length-append (omega arith)
 pub too-many : (b : ℕ) (o : Numbers) → Beyond 8 o → Malformed ≡ pickAll b o
 unfolding pickAll
 too-many b none h = refl
-too-many b (some ns) h = no-count b ns (λ q. omega arith) (λ q. omega arith) (λ q. omega arith)
+too-many b (some ns) h = no-count b ns (λ q. omega arith) (λ q. omega arith) (λ q. omega arith) (λ q. omega arith)
 
 -- a line of which n numbers are read into v, before place i
 pub record Sofar (l v : List ℕ) (n i : ℕ) : Type 0 where

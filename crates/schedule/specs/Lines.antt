@@ -8,7 +8,7 @@ use lib.ListN.{length, getD}
 use lib.Dec.{ltb, leb, eqb}
 use Rattle.sets.specs.Plain.{if_then_else_}
 use Rattle.schedule.specs.declared.Command.{Command}
-use Rattle.schedule.specs.declared.Command.the-variants.{SetUp, Read, Write, Deliver, Gossip, Tidy, Crash, Malformed}
+use Rattle.schedule.specs.declared.Command.the-variants.{SetUp, Columns, Read, Write, Deliver, Gossip, Tidy, Crash, Malformed}
 use Rattle.schedule.specs.Text.{text, fieldsIn, Fields}
 
 -- the line is the command's text, as the paper has it
@@ -54,6 +54,10 @@ pick b n v =
     if eqb n 8
     then (if eqb b 83
     then SetUp (getD v 0 0) (getD v 1 0) (getD v 2 0) (getD v 3 0) (getD v 4 0) (getD v 5 0) (getD v 6 0) (getD v 7 0)
+    else Malformed)
+    else if eqb n 7
+    then (if eqb b 67
+    then Columns (getD v 0 0) (getD v 1 0) (getD v 2 0) (getD v 3 0) (getD v 4 0) (getD v 5 0) (getD v 6 0)
     else Malformed)
     else if eqb n 1
     then (if eqb b 82 then Read (getD v 0 0) else if eqb b 68 then Deliver (getD v 0 0)

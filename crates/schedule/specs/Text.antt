@@ -1,12 +1,13 @@
 -- "Lines: `S nc nd nr f rq wq top w`, `R client`, `W client w`, `D slot`, `G from to`, `T replica`, `X kind id` [..] Fields are
 -- decimal, at most 4,294,967,295, one space apart, line end LF [..]. No leading zeros. [..] Each line prints line number, code,
--- client, tag number, tag client, and the first page word if the code is 1, else 0."
+-- client, tag number, tag client, and the first page word if the code is 1, else 0." And of columns: "The program's set-up line is
+-- `C nc nd nr f columns top w`."
 use Prim.Native.Nat.{ℕ, zero, suc, _+_, _/_, _%_, _≤_}
 use mathlib.Core.List.{List, [], _∷_, _++_}
 use lib.Dec.{ltb, eqb}
 use Rattle.sets.specs.Plain.{if_then_else_}
 use Rattle.schedule.specs.declared.Command.{Command}
-use Rattle.schedule.specs.declared.Command.the-variants.{SetUp, Read, Write, Deliver, Gossip, Tidy, Crash, Malformed}
+use Rattle.schedule.specs.declared.Command.the-variants.{SetUp, Columns, Read, Write, Deliver, Gossip, Tidy, Crash, Malformed}
 
 -- the decimal digits of n, the most significant first and no zero before it, for an n below 10 ^ room
 unfoldable pub decimalIn : ℕ → ℕ → List ℕ
@@ -25,6 +26,7 @@ fieldsText (n ∷ ns) = (32 ∷ decimal n) ++ fieldsText ns
 -- the numbers of a command, in their order
 abbrev pub fieldsIn : Command → List ℕ
 fieldsIn (SetUp nc nd nr f rq wq top w) = nc ∷ nd ∷ nr ∷ f ∷ rq ∷ wq ∷ top ∷ w ∷ []
+fieldsIn (Columns nc nd nr f columns top w) = nc ∷ nd ∷ nr ∷ f ∷ columns ∷ top ∷ w ∷ []
 fieldsIn (Read client) = client ∷ []
 fieldsIn (Write client w) = client ∷ w ∷ []
 fieldsIn (Deliver slot) = slot ∷ []
@@ -33,9 +35,10 @@ fieldsIn (Tidy replica) = replica ∷ []
 fieldsIn (Crash kind id) = kind ∷ id ∷ []
 fieldsIn Malformed = []
 
--- its letter: S, R, W, D, G, T or X
+-- its letter: S, C, R, W, D, G, T or X
 abbrev pub letterOf : Command → ℕ
 letterOf (SetUp nc nd nr f rq wq top w) = 83
+letterOf (Columns nc nd nr f columns top w) = 67
 letterOf (Read client) = 82
 letterOf (Write client w) = 87
 letterOf (Deliver slot) = 68

@@ -1,4 +1,4 @@
-// The lines of a schedule, document 01, "The rehearsal program": bytes into commands, answers into bytes.
+// The lines of a schedule, document 01, "The rehearsal program", and document 02, [13]: bytes into commands, answers into bytes.
 pub mod reading; // reading.rt: the command that a line is
 pub mod input; // input.rt: an input that comes in chunks, cut into lines
 pub mod printing; // printing.rt: the line that answers a command
@@ -6,6 +6,7 @@ pub mod printing; // printing.rt: the line that answers a command
 // What a line says: the numbers of its fields, in their order.
 pub enum Command {
     SetUp(u32, u32, u32, u32, u32, u32, u32, u32),
+    Columns(u32, u32, u32, u32, u32, u32, u32),
     Read(u32),
     Write(u32, u32),
     Deliver(u32),

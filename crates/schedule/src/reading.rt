@@ -56,6 +56,12 @@ fn choose(letter: u8, v: &[u32]) -> Command
         }
         return Command::Malformed;
     }
+    if n == 7 {
+        if letter == b'C' {
+            return Command::Columns(v[0], v[1], v[2], v[3], v[4], v[5], v[6]);
+        }
+        return Command::Malformed;
+    }
     if n == 1 {
         if letter == b'R' {
             return Command::Read(v[0]);

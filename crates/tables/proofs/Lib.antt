@@ -10,3 +10,4 @@ pub mod Empty
 pub mod Whole
 pub mod Round
 pub mod Holds
+pub mod Quorums

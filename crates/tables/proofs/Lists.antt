@@ -1,7 +1,8 @@
 -- Lists of rows: the first row that passes a test, another row put in its place, a function of each row, and rows related one by one.
 use mathlib.Core.Path.{_≡_, refl, sym, ap, _∙_}
 use mathlib.Core.Bool.{Bool, true, false, not}
-use mathlib.Core.List.{List, [], _∷_, map}
+use mathlib.Core.List.{List, [], _∷_, map, List·Memᴰ, List·Memᴰ·head, List·Memᴰ·tail, List·Memᴰ·not-nil, List·Memᴰ·cases-cons}
+use mathlib.Core.Logic.{⊎-elim}
 use Prim.Native.Nat.{ℕ, zero, suc, _<_}
 use native.Mathlib.Nat.{le-of-suc-le-suc, not-suc-le-zero}
 use native.Mathlib.Omega.{arith}
@@ -9,14 +10,18 @@ use borrow.Author.Tests.{lt-ltb}
 use lib.Dec.{T, ltb, leb·suc-suc, T-not}
 use lib.ListN.{length, getD, set}
 use Rattle.sets.specs.Plain.{if_then_else_}
-use Rattle.sets.proofs.Tests.{false-T, if-ind}
-use Rattle.tables.specs.Rows.{some?, putFirst}
+use Rattle.sets.proofs.Tests.{true-T, false-T, if-ind}
+use Rattle.tables.specs.Rows.{some?, every?, putFirst}
 use Rattle.tables.specs.Inner.{before}
 use Rattle.tables.proofs.All.{All, none, cons}
 
 the-rest : (b c : Bool) → T (if b then true else c) → (T b → ⊥) → T c
 the-rest true c h n = absurd (n tt)
 the-rest false c h n = h
+
+both : (b c : Bool) → T (if b then c else false) → T b × T c
+both true c h = (tt, h)
+both false c h = absurd h
 
 module _ {A : Type 0} (p : A → Bool) where
   pub some-before : (xs : List A) → some? p xs ≡ ltb (before p xs) (length xs)
@@ -36,6 +41,41 @@ module _ {A : Type 0} (p : A → Bool) where
           → (if b then y ∷ xs else x ∷ putFirst p y xs) ≡ set (x ∷ xs) (if b then 0 else suc (before p xs)) y
       go true e = refl
       go false e = ap (λ (l : List A). x ∷ l) e
+
+  -- a row that passes, found and told; and so of every row
+  pub some-in : (xs : List A) → T (some? p xs) → (x : A) × List·Memᴰ x xs × T (p x)
+  some-in [] h = absurd h
+  some-in (x ∷ xs) h = go (p x) refl h (some-in xs)
+    where
+      go : (b : Bool) → p x ≡ b → T (if b then true else some? p xs) → (T (some? p xs) → (y : A) × List·Memᴰ y xs × T (p y)) → (y : A) × List·Memᴰ y (x ∷ xs) × T (p y)
+      go true e h f = (x, List·Memᴰ·head refl, true-T (p x) e)
+      go false e h f = let r = f h in (r .0, List·Memᴰ·tail (r .1), r .2)
+
+  pub in-some : {x : A} (xs : List A) → List·Memᴰ x xs → T (p x) → T (some? p xs)
+  in-some [] m h = absurd (List·Memᴰ·not-nil m)
+  in-some {x} (y ∷ xs) m h =
+      if-ind T (p y) (λ _. tt) (λ n. ⊎-elim (λ (e : x ≡ y). absurd (T-not (p y) n (rw e at h))) (λ k. in-some xs k h) (List·Memᴰ·cases-cons m))
+
+  pub every-in : {x : A} (xs : List A) → T (every? p xs) → List·Memᴰ x xs → T (p x)
+  every-in [] h m = absurd (List·Memᴰ·not-nil m)
+  every-in {x} (y ∷ xs) h m =
+      let r : T (p y) × T (every? p xs) = both (p y) (every? p xs) h in
+      ⊎-elim (λ (e : x ≡ y). rw e (r .0)) (every-in xs (r .1)) (List·Memᴰ·cases-cons m)
+
+  pub in-every : (xs : List A) → ((x : A) → List·Memᴰ x xs → T (p x)) → T (every? p xs)
+  in-every [] f = tt
+  in-every (x ∷ xs) f =
+      if-ind T (p x) (λ _. in-every xs (λ y m. f y (List·Memᴰ·tail m))) (λ n. absurd (T-not (p x) n (f x (List·Memᴰ·head refl))))
+
+  -- one fails where not all pass
+  pub not-every : (xs : List A) → some? (λ x. not (p x)) xs ≡ not (every? p xs)
+  not-every [] = refl
+  not-every (x ∷ xs) = go (p x) (not-every xs)
+    where
+      go : (b : Bool) → some? (λ y. not (p y)) xs ≡ not (every? p xs)
+          → (if not b then true else some? (λ y. not (p y)) xs) ≡ not (if b then every? p xs else false)
+      go true e = e
+      go false e = refl
 
 module _ {A B : Type 0} (f : A → B) where
   -- whatever is read past the end

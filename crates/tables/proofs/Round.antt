@@ -159,9 +159,9 @@ module _ (lay : Layout) (M : Machine) (t : List ℕ) (z : Whole M) (room : Room 
   unfolding confOf words blocks joined confWords
   conf-back = refl
 
-  spare-back : take 9 (drop 7 (words M t)) ≡ M .spare
+  spare-back : take 8 (drop 8 (words M t)) ≡ M .spare
   unfolding words blocks joined confWords
-  spare-back = take-at (M .spare) _ 9 (z .spare)
+  spare-back = take-at (M .spare) _ 8 (z .spare)
 
   clients-back : clientsOf (drop 16 (words M t)) ≡ M .clients
   unfolding clientsOf blocks joined
@@ -266,9 +266,9 @@ replicas-kept (suc n) flags l h =
     let h′ : 240 + n * 240 ≤ length l = rw (wider n 240) at h in
     rw (wider n 240, take-add 240 (n * 240) l, replica-words (getD flags 0 0) l (omega arith), replicas-kept n (drop 1 flags) (drop 240 l) (rw length-drop (omega arith)))
 
-conf-kept : (m : List ℕ) → 7 ≤ length m → confWords (confOf m) ≡ take 7 m
+conf-kept : (m : List ℕ) → 8 ≤ length m → confWords (confOf m) ≡ take 8 m
 unfolding confWords confOf
-conf-kept m h = rw (take-cells m 0 7 h)
+conf-kept m h = rw (take-cells m 0 8 h)
 
 -- a buffer that is long enough is the words of the machine that it is read as
 pub words-back : (lay : Layout) (m : List ℕ) → extent lay ≤ length m → words (machineOf lay m) (drop (extent lay) m) ≡ m
@@ -288,6 +288,6 @@ words-back lay m h =
       cut m (flagsAt lay) 7 (gapAt lay) (omega arith),
       cut m 208 (lay .directories * 4) (flagsAt lay) (omega arith),
       cut m 16 192 208 (omega arith),
-      cut m 7 9 16 (omega arith),
+      cut m 8 8 16 (omega arith),
     )
-    (take-append-drop 7 m)
+    (take-append-drop 8 m)

@@ -29,7 +29,7 @@ pub record Stocked (r : Replica) : Type 0 where
   pub pages : All (λ (e : Entry). Paged (e .page)) (r .entries)
 
 pub record Whole (M : Machine) : Type 0 where
-  pub spare : length (M .spare) ≡ 9
+  pub spare : length (M .spare) ≡ 8
   pub clients : length (M .clients) ≡ 8
   pub gap : length (M .gap) ≡ 5
   pub replicas : length (M .replicas) ≡ 7
@@ -67,7 +67,7 @@ pub wholeOf : (lay : Layout) (m : List ℕ) → extent lay ≤ length m → Whol
 unfolding machineOf clientsOf clientOf
 wholeOf lay m h =
     record {
-      spare = length-take-le 9 (drop 7 m) (rw length-drop (omega arith));
+      spare = length-take-le 8 (drop 8 m) (rw length-drop (omega arith));
       clients = clients-many (drop 16 m);
       gap = length-take-le 5 (drop (gapAt lay) m) (rw length-drop (omega arith));
       replicas = its-replicas lay m;

@@ -22,6 +22,7 @@ confOf l =
       rq = getD l 4 0;
       wq = getD l 5 0;
       top = getD l 6 0;
+      columns = getD l 7 0;
     }
 
 unfoldable pub clientOf : List ℕ → Client
@@ -86,7 +87,7 @@ unfoldable pub machineOf : Layout → List ℕ → Machine
 machineOf lay m =
     record {
       conf = confOf m;
-      spare = take 9 (drop 7 m);
+      spare = take 8 (drop 8 m);
       clients = clientsOf (drop 16 m);
       directories = directoriesOf (lay .directories) (drop 208 m);
       gap = take 5 (drop (gapAt lay) m);

@@ -27,6 +27,11 @@ module _ {A : Type 0} where
   some? p [] = false
   some? p (x ∷ xs) = if p x then true else some? p xs
 
+  -- every row passes the test
+  abbrev pub every? : (A → Bool) → List A → Bool
+  every? p [] = true
+  every? p (x ∷ xs) = if p x then every? p xs else false
+
   -- how many rows pass the test
   abbrev pub count : (A → Bool) → List A → ℕ
   count p [] = 0

@@ -23,7 +23,7 @@ pub record Replica : Type 0 where
   pub down : ℕ
   pub entries : List Entry
 
--- `spare` is words 7 to 15, `gap` words 235 to 239 where there are 5 directory rows
+-- `spare` is words 8 to 15, `gap` words 235 to 239 where there are 5 directory rows
 pub record Machine : Type 0 where
   pub conf : Conf
   pub spare : List ℕ

@@ -11,7 +11,7 @@ use Rattle.tables.specs.Tables.{Replica, Machine}
 -- ---- the words of each row
 
 unfoldable pub confWords : Conf → List ℕ
-confWords k = k .clients ∷ k .directories ∷ k .replicas ∷ k .f ∷ k .rq ∷ k .wq ∷ k .top ∷ []
+confWords k = k .clients ∷ k .directories ∷ k .replicas ∷ k .f ∷ k .rq ∷ k .wq ∷ k .top ∷ k .columns ∷ []
 
 unfoldable pub clientWords : Client → List ℕ
 clientWords w =

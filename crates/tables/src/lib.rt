@@ -11,13 +11,13 @@ pub struct Layout {
     pub directories: usize,
 }
 
-// 4,992 words.
+// 4,992 words: document 01, with counts.
 pub const BASE: Layout = Layout { directories: 5 };
 
-// 5,036 words.
+// 5,036 words: directories in columns.
 pub const WIDE: Layout = Layout { directories: 16 };
 
-// The seven numbers.
+// The numbers of words 0 to 7. A machine has the counts rq and wq, or columns, and 0 for what it has not.
 pub struct Conf {
     pub clients: u32,
     pub directories: u32,
@@ -26,6 +26,7 @@ pub struct Conf {
     pub rq: u32,
     pub wq: u32,
     pub top: u32,
+    pub columns: u32,
 }
 
 pub struct Client {

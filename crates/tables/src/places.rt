@@ -15,7 +15,7 @@ use crate::Party;
 use crate::rows;
 
 // Where the spare words, the clients and the directories begin.
-pub const SPARE: usize = 7;
+pub const SPARE: usize = 8;
 
 pub const CLIENTS: usize = 16;
 

@@ -50,7 +50,7 @@ pub fn page_at(s: &[u32]) -> [u32; 16]
 }
 
 pub fn conf_at(m: &[u32]) -> Conf
-    requires { ⌜ 7 ≤ length (now m) ⌝ }
+    requires { ⌜ 8 ≤ length (now m) ⌝ }
     ensures { λ r. ⌜ r ≡ confOf (now (m .entry)) ⌝ }
 {
     Conf {
@@ -61,6 +61,7 @@ pub fn conf_at(m: &[u32]) -> Conf
         rq: m[4],
         wq: m[5],
         top: m[6],
+        columns: m[7],
     }
 }
 

@@ -32,7 +32,7 @@ module _ (lay : Layout) (m : List ℕ) (k : Conf) (at : k ≡ confOf m) (b : Boo
   few-parties l h = few (lay .directories) k (sym n ∙ not-false b h) (omega arith)
 
   all-good : (flags gap entries slots : ℕ) → flags ≡ flagsAt lay → gap ≡ gapAt lay → entries ≡ entriesAt lay + 0 * 240 → slots ≡ slotsAt lay
-      → (z c d g r s : Bool) → not b ≡ false → z ≡ zeros (take 9 (drop 7 m)) → c ≡ eachRow (clientRow k) 1 (clientsOf (rest m 16))
+      → (z c d g r s : Bool) → not b ≡ false → z ≡ zeros (take 8 (drop 8 m)) → c ≡ eachRow (clientRow k) 1 (clientsOf (rest m 16))
       → d ≡ eachRow (directoryRow k) 1 (directoriesOf (lay .directories) (rest m 208)) → g ≡ zeros (take (entries - gap) (drop gap m))
       → r ≡ eachRow (replicaRow k) 1 (replicasOf 7 (rest m flags) (rest m entries)) → s ≡ eachRow (slotRow k) 1 (slotsOf (rest m slots))
       → z && c && d && g && r && s ≡ good lay m

@@ -7,4 +7,4 @@ pub turn-spec : {M : Type 1} → statement M
 turn-spec =
     tie.close
     (tie.spec (λ c κs. search needs) (λ c κs. search needs) (λ c κs. search needs) (λ c. search needs)
-    (λ c. search needs) (λ c. search needs) (λ c. search met) (λ c. search needs) (λ c. search (needs, rest)))
+    (λ c. search needs) (λ c. search needs) (λ c. search needs) (λ c. search met) (λ c. search needs) (λ c. search (needs, rest)))

@@ -1,5 +1,5 @@
-use Rattle.inspect.specs.Good.{goodNumbers}
 use borrow.Author.Needs.{needs}
+use Rattle.inspect.specs.Good.{goodNumbers}
 use Rattle.inspect.proofs.fields.numbers.Statement.{statement}
 use Rattle.inspect.proofs.fields.numbers.Tie as tie
 
@@ -12,5 +12,4 @@ numbers-spec =
     tie.close
     (tie.spec (λ c κs. search needs) (λ c κs. search needs) (λ c κs. search needs) (λ c. search needs)
     (λ c. search needs) (λ c. search needs) (λ c. search needs) (λ c κs. search needs) (λ c κs. search needs)
-    (λ c. search needs) (λ c. search needs) (λ c. search needs) (λ c. search needs) (λ c κs. search needs)
     returns)

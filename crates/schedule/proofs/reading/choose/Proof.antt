@@ -1,5 +1,5 @@
 use borrow.Author.Needs.{needs}
-use Rattle.schedule.proofs.Scan.{picked-as, no-eight, no-one, no-two, no-count}
+use Rattle.schedule.proofs.Scan.{picked-as, no-eight, no-seven, no-one, no-two, no-count}
 use Rattle.schedule.specs.Lines.{pick}
 use Rattle.schedule.proofs.reading.choose.Statement.{statement}
 use Rattle.schedule.proofs.reading.choose.Tie as tie
@@ -10,6 +10,8 @@ choose-spec =
     tie.close
     (tie.spec (λ c. search needs) (λ c. search needs) (λ c. search needs) (λ c. search needs) (λ c. search needs)
     (λ c. search needs) (λ c. search needs) (λ c. search needs) (λ c. search picked-as) (λ c. search no-eight)
+    (λ c. search needs) (λ c. search needs) (λ c. search needs) (λ c. search needs) (λ c. search needs)
+    (λ c. search needs) (λ c. search needs) (λ c. search picked-as) (λ c. search no-seven)
     (λ c. search needs) (λ c. search picked-as) (λ c. search needs) (λ c. search picked-as) (λ c. search needs)
     (λ c. search picked-as) (λ c. search no-one) (λ c. search needs) (λ c. search needs) (λ c. search picked-as)
     (λ c. search needs) (λ c. search needs) (λ c. search picked-as) (λ c. search needs) (λ c. search needs)
