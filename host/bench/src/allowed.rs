@@ -27,7 +27,9 @@ fn decided(raw: &[u8], call: Option<Call>, machine: Option<&Numbers>) -> Option<
     match (call, machine) {
         (None, _) if !raw.ends_with(b"\n") => Some((BAD_ARGUMENT, "has no LF at its end")),
         (None, _) => Some((BAD_ARGUMENT, "is malformed")),
-        (Some(Call::SetUp { numbers, .. }), _) if numbers.in_range() => Some((DONE, "has its numbers in range")),
+        (Some(Call::SetUp { layout, numbers, .. }), _) if numbers.in_range(layout) => {
+            Some((DONE, "has its numbers in range"))
+        }
         (Some(Call::SetUp { .. }), _) => Some((BAD_ARGUMENT, "has numbers out of range")),
         (Some(_), None) => Some((BAD_MACHINE, "stands before the first accepted set-up")),
         (Some(call), Some(n)) if bad_argument(n, call).is_some() => Some((BAD_ARGUMENT, "has a number out of range")),

@@ -113,7 +113,7 @@ impl<'a> Picture<'a> {
     /// Each machine has lanes for its own parties; their names stand before every row.
     fn lanes(&mut self) {
         let Rows { clients: nc, directories: nd, replicas: nr, .. } = self.rows;
-        let all = Numbers { nc, nd, nr, f: 0, rq: 0, wq: 0, top: 0 };
+        let all = Numbers { nc, nd, nr, f: 0, rq: 0, wq: 0, top: 0, columns: 0 };
         for (party, id) in words::rows(&all) {
             self.lane(party, id);
         }

@@ -75,9 +75,8 @@ pub fn ends_by(m: &Words, client: u32, list: &[u32]) -> bool {
     answers.iter().all(Answer::accepted) && first.is_some_and(|at| at + 1 == list.len())
 }
 
-/// Not by way of the stack, which a deep search has none to spare of.
 fn copied(m: &Words) -> Box<Words> {
-    m.to_vec().try_into().expect("a machine's length")
+    m.into()
 }
 
 fn ends(answer: &Answer, client: u32) -> bool {

@@ -64,7 +64,7 @@ pub fn histories(input: &[u8], output: &[u8]) -> Result<Vec<History>, String> {
 fn take(all: &mut Vec<History>, raw: &[u8], answer: Printed) -> Result<(), String> {
     let machine = all.last().map(|history| &history.numbers);
     let call = called(raw, machine, answer.code)?;
-    if let (Some(Call::SetUp { numbers, word }), DONE) = (call, answer.code) {
+    if let (Some(Call::SetUp { numbers, word, .. }), DONE) = (call, answer.code) {
         all.push(History { numbers, first_word: word, operations: Vec::new() });
         return Ok(());
     }

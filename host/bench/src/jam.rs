@@ -13,7 +13,7 @@ pub fn is_for(n: &Numbers) -> bool {
 
 pub fn line(rng: &mut Prng, m: &Words, n: &Numbers, word: u32) -> String {
     let waiting = view::waiting(m);
-    let full = !m[entries_at(2)..][..ENTRIES * ENTRY_ROW].chunks_exact(ENTRY_ROW).any(|row| row[0] == 0);
+    let full = !m[entries_at(m, 2)..][..ENTRIES * ENTRY_ROW].chunks_exact(ENTRY_ROW).any(|row| row[0] == 0);
     if full && waiting.len() < SLOTS && rng.one_in(2) {
         return "G 1 2".to_string();
     }

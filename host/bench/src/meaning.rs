@@ -52,7 +52,7 @@ pub fn malformed(line: Option<&[u8]>) -> String {
 
 fn done(m: &Words, call: Call) -> String {
     match call {
-        Call::SetUp { numbers, word } => format!("a new machine: {}; first page {word}", words::numbers(&numbers)),
+        Call::SetUp { numbers, word, .. } => format!("a new machine: {}; first page {word}", words::numbers(&numbers)),
         Call::Read { client } => format!("client {client} starts a read"),
         Call::Write { client, word } => format!("client {client} starts to write page {word}"),
         Call::Deliver { .. } => delivered(m, call, |message| format!("{} takes it", receiver(message))),

@@ -5,9 +5,9 @@ use crate::prng::Prng;
 use crate::view;
 use copy::layout::{entries_at, ENTRIES, ENTRY_ROW, GOSSIP, SECURE};
 use copy::replica::entries;
-use copy::{Numbers, Rehearsal, Tag, Words};
+use copy::{Layout, Numbers, Rehearsal, Tag, Words};
 
-const NUMBERS: Numbers = Numbers { nc: 8, nd: 5, nr: 7, f: 3, rq: 3, wq: 3, top: u32::MAX };
+const NUMBERS: Numbers = Numbers { nc: 8, nd: 5, nr: 7, f: 3, rq: 3, wq: 3, top: u32::MAX, columns: 0 };
 
 /// With more entries a replica is helped before it is full and everything stands still.
 const CROWDED: usize = 8;
@@ -21,7 +21,7 @@ pub fn night(lines: usize) -> Vec<u8> {
     let mut out = Vec::new();
     let mut word = 1;
     let mut count = 0;
-    let mut line = set_up_line(&NUMBERS, word);
+    let mut line = set_up_line(Layout::Base, &NUMBERS, word);
     while count < lines {
         // A refused line changes nothing, so it is just not written down.
         if machine.step(line.as_bytes()).answer.accepted() {
@@ -52,7 +52,7 @@ fn next_line(rng: &mut Prng, m: &Words, word: u32) -> String {
 }
 
 fn used(m: &Words, id: u32) -> usize {
-    let at = entries_at(id);
+    let at = entries_at(m, id);
     m[at..at + ENTRIES * ENTRY_ROW].chunks_exact(ENTRY_ROW).filter(|row| row[0] != 0).count()
 }
 
@@ -63,7 +63,7 @@ fn highest(m: &Words, id: u32) -> Tag {
 /// What makes room at a replica: tidy, or first news of a higher secured tag.
 fn relief(m: &Words, id: u32, waiting: &[u32]) -> Option<String> {
     let top = highest(m, id);
-    let at = entries_at(id);
+    let at = entries_at(m, id);
     let below = |row: &[u32]| row[0] != 0 && Tag::new(row[1], row[2]) < top;
     if m[at..at + ENTRIES * ENTRY_ROW].chunks_exact(ENTRY_ROW).any(below) {
         return Some(format!("T {id}"));

@@ -2,11 +2,15 @@
 
 use crate::prng::Prng;
 use copy::line::{parse, Call};
-use copy::Numbers;
+use copy::{Layout, Numbers};
 
-pub fn set_up_line(n: &Numbers, word: u32) -> String {
-    let Numbers { nc, nd, nr, f, rq, wq, top } = n;
-    format!("S {nc} {nd} {nr} {f} {rq} {wq} {top} {word}")
+/// The line of a set-up: what the other layout's machine has is left out.
+pub fn set_up_line(layout: Layout, n: &Numbers, word: u32) -> String {
+    let Numbers { nc, nd, nr, f, rq, wq, top, columns } = n;
+    match layout {
+        Layout::Base => format!("S {nc} {nd} {nr} {f} {rq} {wq} {top} {word}"),
+        Layout::Wide => format!("C {nc} {nd} {nr} {f} {columns} {top} {word}"),
+    }
 }
 
 /// A well-formed set-up with one number changed; now and then it is still in range.
@@ -15,7 +19,7 @@ pub fn odd_set_up(rng: &mut Prng, n: &Numbers, word: u32) -> String {
     let mut row = [n.nc, n.nd, n.nr, n.f, n.rq, n.wq, n.top];
     row[rng.below(7)] = odd;
     let [nc, nd, nr, f, rq, wq, top] = row;
-    set_up_line(&Numbers { nc, nd, nr, f, rq, wq, top }, word)
+    set_up_line(Layout::Base, &Numbers { nc, nd, nr, f, rq, wq, top, columns: 0 }, word)
 }
 
 /// A number just out of 1 to `count`, or far out.
@@ -52,7 +56,7 @@ pub fn malformed(rng: &mut Prng, n: &Numbers, word: u32) -> Vec<u8> {
     loop {
         let line = spoiled(rng, n, word);
         let lucky = match parse(&line) {
-            Some(Call::SetUp { numbers, .. }) => numbers.in_range(),
+            Some(Call::SetUp { layout, numbers, .. }) => numbers.in_range(layout),
             Some(Call::Write { .. }) => true,
             _ => false,
         };
@@ -64,7 +68,7 @@ pub fn malformed(rng: &mut Prng, n: &Numbers, word: u32) -> Vec<u8> {
 
 fn spoiled(rng: &mut Prng, n: &Numbers, word: u32) -> Vec<u8> {
     let good = match rng.below(7) {
-        0 => set_up_line(n, word),
+        0 => set_up_line(Layout::Base, n, word),
         1 => format!("R {}", rng.between(1, n.nc)),
         2 => format!("W {} {word}", rng.between(1, n.nc)),
         3 => format!("D {}", rng.between(1, 128)),

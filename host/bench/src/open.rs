@@ -129,7 +129,7 @@ pub fn empty_slots(m: &Words) -> u32 {
 
 /// The twelve entries of a replica, free or not.
 pub fn entries(m: &Words, replica: u32) -> impl Iterator<Item = &[u32]> {
-    m[entries_at(replica)..][..ENTRIES * ENTRY_ROW].chunks_exact(ENTRY_ROW)
+    m[entries_at(m, replica)..][..ENTRIES * ENTRY_ROW].chunks_exact(ENTRY_ROW)
 }
 
 /// Replicas with a free entry.

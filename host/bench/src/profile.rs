@@ -78,12 +78,12 @@ fn any_numbers(rng: &mut Prng) -> Numbers {
     let rq = rng.between(1, nd);
     let top = rng.pick(&[40, 100, 1000, 1_000_000, u32::MAX]);
     let f = rng.between(0, (nr - 1) / 2);
-    Numbers { nc: rng.between(1, 8), nd, nr, f, rq, wq: rng.between(nd - rq + 1, nd), top }
+    Numbers { nc: rng.between(1, 8), nd, nr, f, rq, wq: rng.between(nd - rq + 1, nd), top, columns: 0 }
 }
 
 fn jammed(rng: &mut Prng) -> Numbers {
     let nd = rng.between(2, 3);
-    Numbers { nc: 8, nd, nr: 2, f: 0, rq: 1, wq: nd, top: 1000 }
+    Numbers { nc: 8, nd, nr: 2, f: 0, rq: 1, wq: nd, top: 1000, columns: 0 }
 }
 
 fn with_replicas(n: Numbers, nr: u32) -> Numbers {
@@ -92,10 +92,10 @@ fn with_replicas(n: Numbers, nr: u32) -> Numbers {
 
 fn spending(rng: &mut Prng) -> Numbers {
     let nr = rng.between(1, 2);
-    Numbers { nc: 8, nd: 1, nr, f: 0, rq: 1, wq: 1, top: rng.between(3, 6) }
+    Numbers { nc: 8, nd: 1, nr, f: 0, rq: 1, wq: 1, top: rng.between(3, 6), columns: 0 }
 }
 
 fn hoarding(rng: &mut Prng) -> Numbers {
     let nr = rng.between(1, 3);
-    Numbers { nc: 8, nd: 1, nr, f: 0, rq: 1, wq: 1, top: 1000 }
+    Numbers { nc: 8, nd: 1, nr, f: 0, rq: 1, wq: 1, top: 1000, columns: 0 }
 }

@@ -7,7 +7,7 @@ use crate::prng::Prng;
 use crate::profile::{Action, Profile};
 use crate::view;
 use copy::layout::{Party, CLIENT_BASE, CLIENT_ROW, GOSSIP, IDLE};
-use copy::{Numbers, Rehearsal, Shown, Words};
+use copy::{Layout, Numbers, Rehearsal, Shown, Words};
 
 /// Which messages are liked for a while: a random order alone seldom leaves anyone behind.
 struct Mood {
@@ -131,7 +131,7 @@ impl Generator {
     fn set_up(&mut self) {
         let numbers = self.profile.numbers(&mut self.rng);
         let word = self.fresh_word();
-        self.say(odd::set_up_line(&numbers, word));
+        self.say(odd::set_up_line(Layout::Base, &numbers, word));
     }
 
     /// Before the first set-up: the zero words are a bad machine.

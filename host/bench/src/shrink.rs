@@ -9,7 +9,7 @@ use crate::steps::{concrete, steps, Step};
 use crate::tally::counted;
 use copy::answer::BAD_ARGUMENT;
 use copy::line::{parse, Call};
-use copy::{Numbers, Rehearsal};
+use copy::{Layout, Numbers, Rehearsal};
 use std::fmt;
 use std::path::Path;
 
@@ -111,9 +111,9 @@ impl<F: Fn(&[u8]) -> Option<usize>> Search<F> {
     fn by_numbers(&mut self, schedule: Vec<u8>) -> Vec<u8> {
         let all = steps(&schedule);
         let set_up = raw_lines(&schedule).enumerate().find_map(|(at, raw)| Some((at, numbers_of(raw)?)));
-        let Some((at, (numbers, word))) = set_up else { return schedule };
-        for smaller in smaller(numbers) {
-            let line = format!("{}\n", set_up_line(&smaller, word));
+        let Some((at, (layout, numbers, word))) = set_up else { return schedule };
+        for smaller in smaller(layout, numbers) {
+            let line = format!("{}\n", set_up_line(layout, &smaller, word));
             let mut tried = all.clone();
             tried[at] = Step::Line(line.as_bytes());
             let text = concrete(&tried).0;
@@ -162,16 +162,16 @@ impl<F: Fn(&[u8]) -> Option<usize>> Search<F> {
     }
 }
 
-/// The numbers and the word of a set-up that would be accepted.
-fn numbers_of(raw: &[u8]) -> Option<(Numbers, u32)> {
+/// The layout, the numbers and the word of a set-up that would be accepted.
+fn numbers_of(raw: &[u8]) -> Option<(Layout, Numbers, u32)> {
     match raw.strip_suffix(b"\n").and_then(parse)? {
-        Call::SetUp { numbers, word } if numbers.in_range() => Some((numbers, word)),
+        Call::SetUp { layout, numbers, word } if numbers.in_range(layout) => Some((layout, numbers, word)),
         _ => None,
     }
 }
 
 /// One number less, or two that belong together; and the top at once as low as it can be.
-fn smaller(n: Numbers) -> impl Iterator<Item = Numbers> {
+fn smaller(layout: Layout, n: Numbers) -> impl Iterator<Item = Numbers> {
     let less = |value: u32| value.saturating_sub(1);
     let tried = [
         Numbers { nd: 1, rq: 1, wq: 1, ..n },
@@ -187,5 +187,5 @@ fn smaller(n: Numbers) -> impl Iterator<Item = Numbers> {
         Numbers { top: n.top / 2, ..n },
         Numbers { top: less(n.top).min(99), ..n },
     ];
-    tried.into_iter().filter(move |smaller| *smaller != n && smaller.in_range())
+    tried.into_iter().filter(move |smaller| *smaller != n && smaller.in_range(layout))
 }

@@ -68,7 +68,7 @@ impl Teller {
     }
 
     fn run(&mut self, line: &[u8], call: Call) -> (u32, String, Vec<String>) {
-        let before: Box<Words> = self.words().to_vec().try_into().expect("a machine's length");
+        let before: Box<Words> = self.words().into();
         let shown = self.machine.step(line);
         let details = if shown.answer.accepted() {
             details(&before, self.words(), call)
@@ -138,9 +138,9 @@ fn words_of(m: &Words, party: Party, id: u32) -> (u32, &[u32]) {
     let (at, length) = match party {
         Party::Client => (client_at(id), CLIENT_ROW),
         Party::Directory => (directory_at(id), DIRECTORY_ROW),
-        Party::Replica => (entries_at(id), ENTRIES * ENTRY_ROW),
+        Party::Replica => (entries_at(m, id), ENTRIES * ENTRY_ROW),
     };
-    (m[down_at(party, id)], &m[at..at + length])
+    (m[down_at(m, party, id)], &m[at..at + length])
 }
 
 /// Messages that are gone but for the delivered one, and messages that were not there.

@@ -5,15 +5,15 @@ use copy::mail::{self, Message};
 use copy::{Numbers, Words};
 
 pub fn waiting(m: &Words) -> Vec<u32> {
-    (1..=SLOTS as u32).filter(|&slot| m[slot_at(slot)] != 0).collect()
+    (1..=SLOTS as u32).filter(|&slot| m[slot_at(m, slot)] != 0).collect()
 }
 
 pub fn message(m: &Words, slot: u32) -> Option<Message> {
-    (m[slot_at(slot)] != 0).then(|| mail::read(m, slot))
+    (m[slot_at(m, slot)] != 0).then(|| mail::read(m, slot))
 }
 
 pub fn is_down(m: &Words, party: Party, id: u32) -> bool {
-    m[down_at(party, id)] != 0
+    m[down_at(m, party, id)] != 0
 }
 
 pub fn down_count(m: &Words, party: Party, count: u32) -> u32 {

@@ -60,7 +60,7 @@ pub fn row(m: &Words, party: Party, id: u32) -> Sentence {
 }
 
 pub fn numbers(n: &Numbers) -> String {
-    let Numbers { nc, nd, nr, f, rq, wq, top } = n;
+    let Numbers { nc, nd, nr, f, rq, wq, top, .. } = n;
     let counts = [parties_of(*nc, "client", "clients"), parties_of(*nd, "directory", "directories")].join(", ");
     let replicas = parties_of(*nr, "replica", "replicas");
     format!("{counts}, {replicas}; f {f}, read quorum {rq}, write quorum {wq}, top {top}")

@@ -25,7 +25,7 @@ fn words_are_distinct() {
     for seed in 0..100 {
         let input = schedule(seed, 500);
         let words = lines(&input).filter_map(|line| match parse(line)? {
-            Call::SetUp { numbers, word } if numbers.in_range() => Some(word),
+            Call::SetUp { layout, numbers, word } if numbers.in_range(layout) => Some(word),
             Call::Write { word, .. } => Some(word),
             _ => None,
         });

@@ -8,7 +8,7 @@ use bench::tell::{machine_after, mail, Line, Teller};
 use bench::{cold_schedule, schedule};
 use copy::line::{parse, Call};
 use copy::mail::clear;
-use copy::{Numbers, Rehearsal, Tag, Words};
+use copy::{Layout, Numbers, Rehearsal, Tag, Words};
 
 /// One client, directory and replica; the first page is 7.
 const SMALL: &str = "S 1 1 1 0 1 1 6 7\n";
@@ -116,7 +116,7 @@ fn numbers_out_of_range() {
 /// A set-up is told to be out of range exactly where it is.
 #[test]
 fn set_ups_out_of_range() {
-    let none = Numbers { nc: 0, nd: 0, nr: 0, f: 0, rq: 0, wq: 0, top: 0 };
+    let none = Numbers { nc: 0, nd: 0, nr: 0, f: 0, rq: 0, wq: 0, top: 0, columns: 0 };
     let few = |most: u32| (0..=most).chain([u32::MAX]);
     let tops = [0, 2, 3, u32::MAX];
     for (nd, rq, wq) in few(6).flat_map(|nd| few(6).flat_map(move |rq| few(6).map(move |wq| (nd, rq, wq)))) {
@@ -124,9 +124,9 @@ fn set_ups_out_of_range() {
             .zip(tops.repeat(3))
             .flat_map(|(nc, top)| few(8).flat_map(move |nr| few(4).map(move |f| (nc, nr, f, top))))
         {
-            let numbers = Numbers { nc, nd, nr, f, rq, wq, top };
-            let told = bad_argument(&none, Call::SetUp { numbers, word: 7 });
-            assert_eq!(told.is_none(), numbers.in_range(), "{numbers:?}");
+            let numbers = Numbers { nc, nd, nr, f, rq, wq, top, columns: 0 };
+            let told = bad_argument(&none, Call::SetUp { layout: Layout::Base, numbers, word: 7 });
+            assert_eq!(told.is_none(), numbers.in_range(Layout::Base), "{numbers:?}");
         }
     }
 }
@@ -191,14 +191,14 @@ fn a_message_that_is_lost() {
     for line in [&b"S 2 2 1 0 1 2 9 7"[..], b"R 1", b"R 2"] {
         machine.step(line);
     }
-    let before = *machine.words();
-    let mut after = before;
+    let before = machine.words();
+    let mut after = before.to_vec();
     clear(&mut after, 2);
-    assert_eq!(mail(&before, &after, 0), ["lost: rread from client 1 to directory 2, number 1, in slot 2"]);
-    assert_eq!(mail(&before, &after, 2), [""; 0]);
+    assert_eq!(mail(before, &after, 0), ["lost: rread from client 1 to directory 2, number 1, in slot 2"]);
+    assert_eq!(mail(before, &after, 2), [""; 0]);
     let again = ["sent: rread from client 1 to directory 2, number 1, in slot 2"];
-    assert_eq!(mail(&after, &before, 0), again);
-    assert_eq!(mail(&before, &before, 2), again, "delivered, and the like of it sent");
+    assert_eq!(mail(&after, before, 0), again);
+    assert_eq!(mail(before, before, 2), again, "delivered, and the like of it sent");
 }
 
 #[test]
@@ -269,7 +269,7 @@ fn all_sorts_of_schedule() {
             assert!(newest >= answer.tag, "seed {seed}, line {}", line.number);
             before = newest;
         }
-        assert!(Numbers::read(teller.words()).in_range());
+        assert!(Numbers::read(teller.words()).in_range(Layout::of(teller.words())));
     }
 }
 

@@ -64,12 +64,11 @@ impl Client {
             return Outcome::Stale;
         }
         let row = Client { answered: self.answered | from, ..*self }.learn(message);
-        let answers = row.answered.count_ones();
         match self.phase {
             RRR => Outcome::ReadEnded,
-            RDR | WDR if answers < n.rq => Outcome::Waiting(row),
-            RDW | WDW if answers < n.wq => Outcome::Waiting(row),
-            WRW if answers <= n.f => Outcome::Waiting(row),
+            RDR | WDR if !n.enough_to_read(row.answered) => Outcome::Waiting(row),
+            RDW | WDW if !n.enough_to_write(row.answered) => Outcome::Waiting(row),
+            WRW if row.answered.count_ones() <= n.f => Outcome::Waiting(row),
             _ => row.advance(message.to, n),
         }
     }
@@ -84,7 +83,7 @@ impl Client {
         }
     }
 
-    /// The count is reached: the next phase, or the end of a write.
+    /// Enough have answered: the next phase, or the end of a write.
     fn advance(self, id: u32, n: &Numbers) -> Outcome {
         match self.phase {
             RDR => self.next(RDW).sends(id, RWRITE, all(n.nd)),

@@ -1,26 +1,69 @@
 //! Where each table stands in the words, and the names of kinds and phases.
 
 pub const WORDS: usize = 4992;
+pub const WIDE_WORDS: usize = 5036;
 pub const PAGE: usize = 16;
 pub const CLIENTS: usize = 8;
 pub const DIRECTORIES: usize = 5;
+pub const WIDE_DIRECTORIES: usize = 16;
 pub const REPLICAS: usize = 7;
 pub const ENTRIES: usize = 12;
 pub const SLOTS: usize = 128;
 
-pub const NUMBERS: usize = 7;
+pub const NUMBERS: usize = 8;
 pub const CLIENT_BASE: usize = 16;
 pub const CLIENT_ROW: usize = 24;
 pub const DIRECTORY_BASE: usize = 208;
 pub const DIRECTORY_ROW: usize = 4;
+/// From here on places are base's: all behind the directories stands `later` words on.
 pub const REPLICA_DOWN: usize = 228;
 pub const ENTRY_BASE: usize = 240;
 pub const ENTRY_ROW: usize = 20;
 pub const SLOT_BASE: usize = 1920;
 pub const SLOT_ROW: usize = 24;
 
-pub type Words = [u32; WORDS];
+/// A machine's words, cut to the length of its layout.
+pub type Words = [u32];
 pub type Page = [u32; PAGE];
+
+/// The two machines: 5 directories with counts, or 16 in columns.
+#[derive(Clone, Copy, PartialEq, Eq, Debug)]
+pub enum Layout {
+    Base,
+    Wide,
+}
+
+impl Layout {
+    pub const ALL: [Layout; 2] = [Layout::Base, Layout::Wide];
+
+    pub const fn words(self) -> usize {
+        match self {
+            Layout::Base => WORDS,
+            Layout::Wide => WIDE_WORDS,
+        }
+    }
+
+    pub const fn directories(self) -> usize {
+        match self {
+            Layout::Base => DIRECTORIES,
+            Layout::Wide => WIDE_DIRECTORIES,
+        }
+    }
+
+    /// The layout of words cut to its length.
+    pub const fn of(m: &Words) -> Layout {
+        if m.len() == WORDS {
+            Layout::Base
+        } else {
+            Layout::Wide
+        }
+    }
+}
+
+/// How far the tables behind the directories have moved.
+pub const fn later(m: &Words) -> usize {
+    m.len() - WORDS
+}
 
 pub const RREAD: u32 = 1;
 pub const RWRITE: u32 = 2;
@@ -79,20 +122,20 @@ pub fn directory_at(id: u32) -> usize {
 }
 
 /// First word of the first entry of replica `id`.
-pub fn entries_at(id: u32) -> usize {
-    ENTRY_BASE + (id as usize - 1) * ENTRIES * ENTRY_ROW
+pub fn entries_at(m: &Words, id: u32) -> usize {
+    ENTRY_BASE + later(m) + (id as usize - 1) * ENTRIES * ENTRY_ROW
 }
 
-pub fn slot_at(slot: u32) -> usize {
-    SLOT_BASE + (slot as usize - 1) * SLOT_ROW
+pub fn slot_at(m: &Words, slot: u32) -> usize {
+    SLOT_BASE + later(m) + (slot as usize - 1) * SLOT_ROW
 }
 
 /// The word that tells whether a party is down.
-pub fn down_at(party: Party, id: u32) -> usize {
+pub fn down_at(m: &Words, party: Party, id: u32) -> usize {
     match party {
         Party::Client => client_at(id),
         Party::Directory => directory_at(id),
-        Party::Replica => REPLICA_DOWN + id as usize - 1,
+        Party::Replica => REPLICA_DOWN + later(m) + id as usize - 1,
     }
 }
 

@@ -1,7 +1,8 @@
-//! LDR as a step machine over 4,992 lent words, written from the paper alone.
+//! LDR as a step machine over lent words, 4,992 or in columns 5,036, written from the papers alone.
 #![forbid(unsafe_code)]
 
 pub mod answer;
+pub mod calls;
 pub mod client;
 pub mod directory;
 pub mod good;
@@ -15,8 +16,9 @@ pub mod replica;
 pub mod tag;
 
 pub use answer::{Answer, Report};
-pub use layout::{Page, Words, PAGE, WORDS};
-pub use machine::{crash, deliver, gossip, report, set_up, start_read, start_write, tidy};
+pub use calls::base::{crash, deliver, gossip, report, set_up, start_read, start_write, tidy};
+pub use calls::wide;
+pub use layout::{Layout, Page, Words, PAGE, WIDE_WORDS, WORDS};
 pub use numbers::Numbers;
 pub use rehearsal::{Rehearsal, Shown};
 pub use tag::Tag;

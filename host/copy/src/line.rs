@@ -1,5 +1,6 @@
 //! The lines of a schedule.
 
+use crate::layout::Layout;
 use crate::numbers::Numbers;
 
 /// The longest line, LF not counted.
@@ -7,7 +8,7 @@ pub const LONGEST: usize = 80;
 
 #[derive(Clone, Copy, PartialEq, Eq, Debug)]
 pub enum Call {
-    SetUp { numbers: Numbers, word: u32 },
+    SetUp { layout: Layout, numbers: Numbers, word: u32 },
     Read { client: u32 },
     Write { client: u32, word: u32 },
     Deliver { slot: u32 },
@@ -30,7 +31,13 @@ pub fn parse(line: &[u8]) -> Option<Call> {
         b'T' => fields(rest).map(|[replica]| Call::Tidy { replica }),
         b'X' => fields(rest).map(|[kind, id]| Call::Crash { kind, id }),
         b'S' => fields(rest).map(|[nc, nd, nr, f, rq, wq, top, word]| Call::SetUp {
-            numbers: Numbers { nc, nd, nr, f, rq, wq, top },
+            layout: Layout::Base,
+            numbers: Numbers { nc, nd, nr, f, rq, wq, top, columns: 0 },
+            word,
+        }),
+        b'C' => fields(rest).map(|[nc, nd, nr, f, columns, top, word]| Call::SetUp {
+            layout: Layout::Wide,
+            numbers: Numbers { nc, nd, nr, f, rq: 0, wq: 0, top, columns },
             word,
         }),
         _ => None,

@@ -1,4 +1,4 @@
-//! The eight calls. Each refuses with the lowest code that applies and then changes nothing.
+//! The eight calls, on either layout. Each refuses with the lowest code that applies and then changes nothing.
 
 use crate::answer::*;
 use crate::client::{Client, Outcome};
@@ -11,14 +11,14 @@ use crate::replica::{self, Change};
 use crate::tag::Tag;
 
 /// The machine in a lent buffer, with its numbers, or the code that refuses it.
-fn open(buffer: &mut [u32]) -> Result<(&mut Words, Numbers), u32> {
-    let m = machine(buffer).ok_or(SIZE)?;
+fn open(layout: Layout, buffer: &mut [u32]) -> Result<(&mut Words, Numbers), u32> {
+    let m = machine(layout, buffer).ok_or(SIZE)?;
     let n = good::numbers(m).ok_or(BAD_MACHINE)?;
     Ok((m, n))
 }
 
-fn machine(buffer: &mut [u32]) -> Option<&mut Words> {
-    buffer.get_mut(..WORDS)?.try_into().ok()
+fn machine(layout: Layout, buffer: &mut [u32]) -> Option<&mut Words> {
+    buffer.get_mut(..layout.words())
 }
 
 fn refuse_if(refused: bool, code: u32) -> Result<(), u32> {
@@ -34,17 +34,17 @@ fn answer(result: Result<Answer, u32>) -> Answer {
 }
 
 fn is_down(m: &Words, party: Party, id: u32) -> bool {
-    m[down_at(party, id)] != 0
+    m[down_at(m, party, id)] != 0
 }
 
-pub fn set_up(buffer: &mut [u32], numbers: Numbers, page: &[u32]) -> Answer {
-    answer(try_set_up(buffer, numbers, page))
+pub fn set_up(layout: Layout, buffer: &mut [u32], numbers: Numbers, page: &[u32]) -> Answer {
+    answer(try_set_up(layout, buffer, numbers, page))
 }
 
-fn try_set_up(buffer: &mut [u32], n: Numbers, page: &[u32]) -> Result<Answer, u32> {
-    let m = machine(buffer).ok_or(SIZE)?;
+fn try_set_up(layout: Layout, buffer: &mut [u32], n: Numbers, page: &[u32]) -> Result<Answer, u32> {
+    let m = machine(layout, buffer).ok_or(SIZE)?;
     let page: &Page = page.try_into().map_err(|_| SIZE)?;
-    refuse_if(!n.in_range(), BAD_ARGUMENT)?;
+    refuse_if(!n.in_range(layout), BAD_ARGUMENT)?;
     m.fill(0);
     n.write(m);
     for id in 1..=n.nr {
@@ -56,20 +56,20 @@ fn try_set_up(buffer: &mut [u32], n: Numbers, page: &[u32]) -> Result<Answer, u3
     Ok(Answer::bare(DONE))
 }
 
-pub fn start_read(buffer: &mut [u32], client: u32) -> Answer {
-    answer(start(buffer, client, RDR, &[0; PAGE]))
+pub fn start_read(layout: Layout, buffer: &mut [u32], client: u32) -> Answer {
+    answer(start(layout, buffer, client, RDR, &[0; PAGE]))
 }
 
-pub fn start_write(buffer: &mut [u32], client: u32, page: &[u32]) -> Answer {
+pub fn start_write(layout: Layout, buffer: &mut [u32], client: u32, page: &[u32]) -> Answer {
     let started = match page.try_into() {
-        Ok(page) => start(buffer, client, WDR, page),
+        Ok(page) => start(layout, buffer, client, WDR, page),
         Err(_) => Err(SIZE),
     };
     answer(started)
 }
 
-fn start(buffer: &mut [u32], id: u32, phase: u32, page: &Page) -> Result<Answer, u32> {
-    let (m, n) = open(buffer)?;
+fn start(layout: Layout, buffer: &mut [u32], id: u32, phase: u32, page: &Page) -> Result<Answer, u32> {
+    let (m, n) = open(layout, buffer)?;
     refuse_if(!within(id, n.nc), BAD_ARGUMENT)?;
     let row = Client::read(m, id);
     refuse_if(row.down != 0, DOWN)?;
@@ -82,15 +82,15 @@ fn start(buffer: &mut [u32], id: u32, phase: u32, page: &Page) -> Result<Answer,
     Ok(Answer::bare(DONE))
 }
 
-pub fn deliver(buffer: &mut [u32], slot: u32, page: &mut [u32]) -> Answer {
-    answer(try_deliver(buffer, slot, page))
+pub fn deliver(layout: Layout, buffer: &mut [u32], slot: u32, page: &mut [u32]) -> Answer {
+    answer(try_deliver(layout, buffer, slot, page))
 }
 
-fn try_deliver(buffer: &mut [u32], slot: u32, page: &mut [u32]) -> Result<Answer, u32> {
+fn try_deliver(layout: Layout, buffer: &mut [u32], slot: u32, page: &mut [u32]) -> Result<Answer, u32> {
     refuse_if(page.len() != PAGE, SIZE)?;
-    let (m, n) = open(buffer)?;
+    let (m, n) = open(layout, buffer)?;
     refuse_if(!within(slot, SLOTS as u32), BAD_ARGUMENT)?;
-    refuse_if(m[slot_at(slot)] == 0, EMPTY)?;
+    refuse_if(m[slot_at(m, slot)] == 0, EMPTY)?;
     let message = mail::read(m, slot);
     let (_, receiver) = ends(message.kind);
     if is_down(m, receiver, message.to) {
@@ -157,12 +157,12 @@ fn to_client(m: &mut Words, n: &Numbers, slot: u32, message: &Message, page: &mu
     })
 }
 
-pub fn gossip(buffer: &mut [u32], from: u32, to: u32) -> Answer {
-    answer(try_gossip(buffer, from, to))
+pub fn gossip(layout: Layout, buffer: &mut [u32], from: u32, to: u32) -> Answer {
+    answer(try_gossip(layout, buffer, from, to))
 }
 
-fn try_gossip(buffer: &mut [u32], from: u32, to: u32) -> Result<Answer, u32> {
-    let (m, n) = open(buffer)?;
+fn try_gossip(layout: Layout, buffer: &mut [u32], from: u32, to: u32) -> Result<Answer, u32> {
+    let (m, n) = open(layout, buffer)?;
     refuse_if(!within(from, n.nr) || !within(to, n.nr) || from == to, BAD_ARGUMENT)?;
     refuse_if(is_down(m, Party::Replica, from), DOWN)?;
     let (tag, page) = replica::entries(m, from).highest();
@@ -172,24 +172,24 @@ fn try_gossip(buffer: &mut [u32], from: u32, to: u32) -> Result<Answer, u32> {
     Ok(Answer::bare(DONE))
 }
 
-pub fn tidy(buffer: &mut [u32], id: u32) -> Answer {
-    answer(try_tidy(buffer, id))
+pub fn tidy(layout: Layout, buffer: &mut [u32], id: u32) -> Answer {
+    answer(try_tidy(layout, buffer, id))
 }
 
-fn try_tidy(buffer: &mut [u32], id: u32) -> Result<Answer, u32> {
-    let (m, n) = open(buffer)?;
+fn try_tidy(layout: Layout, buffer: &mut [u32], id: u32) -> Result<Answer, u32> {
+    let (m, n) = open(layout, buffer)?;
     refuse_if(!within(id, n.nr), BAD_ARGUMENT)?;
     refuse_if(is_down(m, Party::Replica, id), DOWN)?;
     replica::tidy(m, id);
     Ok(Answer::bare(DONE))
 }
 
-pub fn crash(buffer: &mut [u32], kind: u32, id: u32) -> Answer {
-    answer(try_crash(buffer, kind, id))
+pub fn crash(layout: Layout, buffer: &mut [u32], kind: u32, id: u32) -> Answer {
+    answer(try_crash(layout, buffer, kind, id))
 }
 
-fn try_crash(buffer: &mut [u32], kind: u32, id: u32) -> Result<Answer, u32> {
-    let (m, n) = open(buffer)?;
+fn try_crash(layout: Layout, buffer: &mut [u32], kind: u32, id: u32) -> Result<Answer, u32> {
+    let (m, n) = open(layout, buffer)?;
     let (party, count) = match kind {
         1 => (Party::Client, n.nc),
         2 => (Party::Directory, n.nd),
@@ -198,18 +198,18 @@ fn try_crash(buffer: &mut [u32], kind: u32, id: u32) -> Result<Answer, u32> {
     };
     refuse_if(!within(id, count), BAD_ARGUMENT)?;
     refuse_if(is_down(m, party, id), DOWN)?;
-    m[down_at(party, id)] = 1;
+    m[down_at(m, party, id)] = 1;
     Ok(Answer::bare(DONE))
 }
 
-pub fn report(buffer: &mut [u32]) -> Report {
-    match open(buffer) {
+pub fn report(layout: Layout, buffer: &mut [u32]) -> Report {
+    match open(layout, buffer) {
         Ok((m, n)) => Report { code: DONE, waiting: mail::waiting(m), down: parties_down(m, &n) },
         Err(code) => Report { code, waiting: 0, down: 0 },
     }
 }
 
 fn parties_down(m: &Words, n: &Numbers) -> u32 {
-    let sum = |party, count| (1..=count).map(|id| m[down_at(party, id)]).sum::<u32>();
+    let sum = |party, count| (1..=count).map(|id| m[down_at(m, party, id)]).sum::<u32>();
     sum(Party::Client, n.nc) + sum(Party::Directory, n.nd) + sum(Party::Replica, n.nr)
 }

@@ -49,7 +49,7 @@ impl Message {
 }
 
 pub fn read(m: &Words, slot: u32) -> Message {
-    let at = slot_at(slot);
+    let at = slot_at(m, slot);
     let row: &[u32; SLOT_ROW] = m[at..at + SLOT_ROW].try_into().expect("a slot's length");
     let [kind, from, to, tag_number, tag_client, set, number, ..] = *row;
     let page = row[8..].try_into().expect("a page's length");
@@ -63,12 +63,12 @@ fn write(row: &mut [u32], message: &Message, to: u32) {
 }
 
 pub fn clear(m: &mut Words, slot: u32) {
-    let at = slot_at(slot);
+    let at = slot_at(m, slot);
     m[at..at + SLOT_ROW].fill(0);
 }
 
 fn kinds(m: &Words) -> impl Iterator<Item = u32> + '_ {
-    m[SLOT_BASE..].chunks_exact(SLOT_ROW).map(|row| row[0])
+    m[slot_at(m, 1)..].chunks_exact(SLOT_ROW).map(|row| row[0])
 }
 
 pub fn waiting(m: &Words) -> u32 {
@@ -84,7 +84,8 @@ pub fn fits(m: &Words, send: &Send, freed: u32) -> bool {
 /// Places in order of receiver, each into the lowest empty slot. `fits` was asked before.
 pub fn place(m: &mut Words, send: &Send) {
     let mut left = send.receivers;
-    for row in m[SLOT_BASE..].chunks_exact_mut(SLOT_ROW) {
+    let at = slot_at(m, 1);
+    for row in m[at..].chunks_exact_mut(SLOT_ROW) {
         if left == 0 {
             return;
         }

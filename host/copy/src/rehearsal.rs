@@ -1,7 +1,7 @@
 //! Lines in, lines out: what the rehearsal program does, fed in pieces of any size.
 
 use crate::answer::{Answer, BAD_ARGUMENT, READ_ENDED};
-use crate::layout::{Page, Words, PAGE, WORDS};
+use crate::layout::{Layout, Page, Words, PAGE};
 use crate::line::{self, Call};
 use crate::machine;
 
@@ -13,7 +13,10 @@ pub struct Shown {
 }
 
 pub struct Rehearsal {
-    words: Box<Words>,
+    base: Box<Words>,
+    wide: Box<Words>,
+    /// The machine of the last accepted set-up; base's before the first.
+    in_force: Layout,
     lines: u64,
     /// The start of a line whose LF has not come; one byte over the limit is enough to keep.
     held: Vec<u8>,
@@ -21,7 +24,14 @@ pub struct Rehearsal {
 
 impl Default for Rehearsal {
     fn default() -> Self {
-        Rehearsal { words: Box::new([0; WORDS]), lines: 0, held: Vec::with_capacity(line::LONGEST + 1) }
+        let zeros = |layout: Layout| vec![0; layout.words()].into_boxed_slice();
+        Rehearsal {
+            base: zeros(Layout::Base),
+            wide: zeros(Layout::Wide),
+            in_force: Layout::Base,
+            lines: 0,
+            held: Vec::with_capacity(line::LONGEST + 1),
+        }
     }
 }
 
@@ -30,8 +40,12 @@ impl Rehearsal {
         Rehearsal::default()
     }
 
+    /// The machine in force.
     pub fn words(&self) -> &Words {
-        &self.words
+        match self.in_force {
+            Layout::Base => &self.base,
+            Layout::Wide => &self.wide,
+        }
     }
 
     /// Takes the next bytes of the input and appends the lines that they finish.
@@ -54,7 +68,24 @@ impl Rehearsal {
 
     /// Runs one line, given without its LF; prints nothing and counts nothing.
     pub fn step(&mut self, line: &[u8]) -> Shown {
-        line::parse(line).map_or_else(malformed, |call| run(&mut self.words, call))
+        line::parse(line).map_or_else(malformed, |call| self.call(call))
+    }
+
+    /// A set-up asks the array of its own layout, and comes into force if accepted.
+    fn call(&mut self, call: Call) -> Shown {
+        let asked = match call {
+            Call::SetUp { layout, .. } => layout,
+            _ => self.in_force,
+        };
+        let words = match asked {
+            Layout::Base => &mut self.base,
+            Layout::Wide => &mut self.wide,
+        };
+        let shown = run(words, call);
+        if shown.answer.accepted() {
+            self.in_force = asked;
+        }
+        shown
     }
 
     fn whole_line(&mut self, end: &[u8]) -> Shown {
@@ -97,16 +128,18 @@ pub fn page_of(word: u32) -> Page {
     page
 }
 
+/// One call on a machine's words.
 pub fn run(words: &mut Words, call: Call) -> Shown {
+    let here = Layout::of(words);
     let mut page = [0; PAGE];
     let answer = match call {
-        Call::SetUp { numbers, word } => machine::set_up(words, numbers, &page_of(word)),
-        Call::Read { client } => machine::start_read(words, client),
-        Call::Write { client, word } => machine::start_write(words, client, &page_of(word)),
-        Call::Deliver { slot } => machine::deliver(words, slot, &mut page),
-        Call::Gossip { from, to } => machine::gossip(words, from, to),
-        Call::Tidy { replica } => machine::tidy(words, replica),
-        Call::Crash { kind, id } => machine::crash(words, kind, id),
+        Call::SetUp { numbers, word, .. } => machine::set_up(here, words, numbers, &page_of(word)),
+        Call::Read { client } => machine::start_read(here, words, client),
+        Call::Write { client, word } => machine::start_write(here, words, client, &page_of(word)),
+        Call::Deliver { slot } => machine::deliver(here, words, slot, &mut page),
+        Call::Gossip { from, to } => machine::gossip(here, words, from, to),
+        Call::Tidy { replica } => machine::tidy(here, words, replica),
+        Call::Crash { kind, id } => machine::crash(here, words, kind, id),
     };
     let word = if answer.code == READ_ENDED { page[0] } else { 0 };
     Shown { answer, word }

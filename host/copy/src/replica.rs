@@ -17,7 +17,7 @@ pub enum Change {
 }
 
 pub fn entries(m: &Words, id: u32) -> Entries<'_> {
-    let at = entries_at(id);
+    let at = entries_at(m, id);
     Entries(&m[at..at + ENTRIES * ENTRY_ROW])
 }
 
@@ -90,21 +90,22 @@ fn page_of(row: &[u32]) -> Page {
     row[4..ENTRY_ROW].try_into().expect("a page's length")
 }
 
-fn entry_at(id: u32, entry: usize) -> usize {
-    entries_at(id) + entry * ENTRY_ROW
+fn entry_at(m: &Words, id: u32, entry: usize) -> usize {
+    entries_at(m, id) + entry * ENTRY_ROW
 }
 
 /// Carries out a change that is not `Full`.
 pub fn apply(m: &mut Words, id: u32, change: Change, message: &Message) {
     match change {
         Change::Put { entry, state } => put(m, id, entry, state, message.tag, &message.page),
-        Change::Secure { entry } => m[entry_at(id, entry)] = SECURED,
+        Change::Secure { entry } => m[entry_at(m, id, entry)] = SECURED,
         Change::None | Change::Full => (),
     }
 }
 
 pub fn put(m: &mut Words, id: u32, entry: usize, state: u32, tag: Tag, page: &Page) {
-    let row = &mut m[entry_at(id, entry)..][..ENTRY_ROW];
+    let at = entry_at(m, id, entry);
+    let row = &mut m[at..at + ENTRY_ROW];
     row[..4].copy_from_slice(&[state, tag.number, tag.client, 0]);
     row[4..].copy_from_slice(page);
 }
@@ -112,7 +113,7 @@ pub fn put(m: &mut Words, id: u32, entry: usize, state: u32, tag: Tag, page: &Pa
 /// Frees every entry below the highest secured tag.
 pub fn tidy(m: &mut Words, id: u32) {
     let (highest, _) = entries(m, id).highest();
-    let at = entries_at(id);
+    let at = entries_at(m, id);
     for row in m[at..at + ENTRIES * ENTRY_ROW].chunks_exact_mut(ENTRY_ROW) {
         if tag_of(row) < highest {
             row.fill(0);

@@ -78,7 +78,7 @@ fn thirteenth_tag_is_full() {
         let mut m = machine(1, 1, 2, 0, 1, 1, 99);
         for number in 1..=12 {
             let message_number = u32::from(kind == WRITE);
-            m[slot_at(1)..slot_at(1) + SLOT_ROW].fill(0);
+            copy::mail::clear(&mut m, 1);
             put_message(&mut m, 1, [kind, 1, 2, number, 1, 0, message_number]);
             let before = m.clone();
             let code = deliver(&mut m, 1, &mut [0; 16]).code;
@@ -98,7 +98,7 @@ fn full_stands_before_no_slot() {
     assert_eq!(gossip(&mut m, 1, 2).code, NO_SLOT);
     assert_eq!(start_read(&mut m, 1).code, NO_SLOT);
     for number in 1..12 {
-        let row = &mut m[entries_at(2) + number * ENTRY_ROW..];
+        let row = &mut m[ENTRY_BASE + (ENTRIES + number) * ENTRY_ROW..];
         row[..3].copy_from_slice(&[HELD, number as u32, 1]);
     }
     assert_eq!(deliver(&mut m, 12, &mut [0; 16]).code, FULL);
@@ -150,7 +150,7 @@ fn every_unused_word_must_be_zero() {
     let m = machine(2, 1, 3, 1, 1, 1, 9);
     // Without these, a single 1 is in range: top, f, first pages, downs, message numbers, states.
     let free_page = |at: usize| (ENTRY_BASE..SLOT_BASE).contains(&at) && (at - ENTRY_BASE) % ENTRY_ROW >= 4;
-    for (at, &word) in m.iter().enumerate().skip(NUMBERS) {
+    for (at, &word) in m.iter().enumerate().skip(7) {
         let in_first_entry = (0..3).any(|r| (0..ENTRY_ROW).contains(&at.wrapping_sub(ENTRY_BASE + r * 240)));
         let used = word != 0
             || [CLIENT_BASE, CLIENT_BASE + 2, CLIENT_BASE + 24, CLIENT_BASE + 26, DIRECTORY_BASE].contains(&at)
@@ -226,7 +226,7 @@ fn fields_that_kinds_carry() {
         let code = |row: [u32; 7], word: u32| {
             let mut m = machine(2, 1, 3, 1, 1, 1, 9);
             put_message(&mut m, 128, row);
-            m[slot_at(128) + 23] = word;
+            m[WORDS - 1] = word;
             report(&mut m).code == DONE
         };
         assert!(code([kind, 1, 1, 0, 0, 0, number], 0), "{kind}");

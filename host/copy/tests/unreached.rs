@@ -16,7 +16,7 @@ fn deliver_first(m: &mut [u32]) -> Answer {
 }
 
 fn slot(m: &[u32], slot: u32) -> &[u32] {
-    &m[slot_at(slot)..slot_at(slot) + 7]
+    &m[slot_at(m, slot)..][..7]
 }
 
 fn waiting(m: &mut [u32]) -> u32 {
@@ -52,7 +52,7 @@ fn a_read_ends_at_any_replica() {
     let mut m = machine(1, 1, 3, 1, 1, 1, 9);
     put_client(&mut m, [RRR, 3, 0, 0b001, 4, 1]);
     put_message(&mut m, 1, [READ_OK, 3, 1, 2, 1, 0, 3]);
-    m[slot_at(1) + 8] = 77;
+    m[SLOT_BASE + 8] = 77;
     let mut page = [1; 16];
     assert_eq!(deliver(&mut m, 1, &mut page), Answer { code: READ_ENDED, client: 1, tag: Tag::new(2, 1) });
     assert_eq!(page, common::page(77));
@@ -95,7 +95,7 @@ fn gossip_to_itself_and_other_pages() {
     let mut m = machine(1, 1, 1, 0, 1, 1, 9);
     put_entries(&mut m, &[(SECURED, 0, 0), (HELD, 2, 1)]);
     put_message(&mut m, 1, [GOSSIP, 1, 1, 2, 1, 0, 0]);
-    m[slot_at(1) + 8] = 5;
+    m[SLOT_BASE + 8] = 5;
     assert_eq!(deliver_first(&mut m).code, DONE);
     // The entry is secured with the page it had.
     assert_eq!(m[ENTRY_BASE + ENTRY_ROW..ENTRY_BASE + ENTRY_ROW + 5], [SECURED, 2, 1, 0, 201]);

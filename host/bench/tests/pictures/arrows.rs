@@ -7,7 +7,7 @@ use bench::rows::{COLUMN, LEFT, PER_ROW};
 use bench::story::{story, Story};
 use bench::underway::{Arrow, Fate, Underway};
 use bench::view;
-use copy::layout::{slot_at, SLOTS, SLOT_ROW};
+use copy::layout::{slot_at, SLOTS};
 use copy::line::{parse, Call};
 use copy::{Rehearsal, Words};
 
@@ -85,7 +85,7 @@ fn asked() -> (Box<Words>, Underway) {
     machine.step(b"R 1");
     let mut underway = Underway::default();
     assert_eq!(underway.step(machine.words(), 0, None), []);
-    (Box::new(*machine.words()), underway)
+    (machine.words().into(), underway)
 }
 
 fn ends(arrows: &[Arrow]) -> Vec<(u32, usize, usize, Fate)> {
@@ -98,7 +98,7 @@ fn a_slot_emptied_otherwise_is_a_lost_message() {
     let (mut m, mut underway) = asked();
     copy::mail::clear(&mut m, 2);
     assert_eq!(ends(&underway.step(&m, 5, None)), [(2, 0, 5, Fate::Lost)]);
-    m.copy_within(slot_at(1)..slot_at(1) + SLOT_ROW, slot_at(2));
+    m.copy_within(slot_at(&m, 1)..slot_at(&m, 2), slot_at(&m, 2));
     assert_eq!(underway.step(&m, 6, None), []);
     let left = underway.leave(9);
     assert_eq!(ends(&left), [(1, 0, 9, Fate::Waiting), (1, 6, 9, Fate::Waiting), (3, 0, 9, Fate::Waiting)]);
@@ -107,7 +107,7 @@ fn a_slot_emptied_otherwise_is_a_lost_message() {
 #[test]
 fn a_message_replaced_is_lost_and_the_new_one_sent() {
     let (mut m, mut underway) = asked();
-    m.copy_within(slot_at(1)..slot_at(1) + SLOT_ROW, slot_at(3));
+    m.copy_within(slot_at(&m, 1)..slot_at(&m, 2), slot_at(&m, 3));
     assert_eq!(ends(&underway.step(&m, 4, None)), [(3, 0, 4, Fate::Lost)]);
     assert_eq!(ends(&underway.leave(8))[2], (1, 4, 8, Fate::Waiting));
 }

@@ -19,7 +19,7 @@ fn packed(m: &Words) -> Vec<(usize, u32)> {
 }
 
 fn unpacked(packed: &[(usize, u32)]) -> Box<Words> {
-    let mut words = Box::new([0; copy::WORDS]);
+    let mut words: Box<Words> = Box::new([0; copy::WORDS]);
     packed.iter().for_each(|&(at, word)| words[at] = word);
     words
 }
@@ -61,7 +61,7 @@ impl Everything {
 
     fn call_freely(&mut self, m: &Words, level: &mut Vec<Vec<(usize, u32)>>) {
         for &call in &self.free {
-            let mut after = Box::new(*m);
+            let mut after: Box<Words> = m.into();
             let accepted = run(&mut after, call).answer.accepted();
             if accepted && view::waiting(&after).len() <= LITTLE_MAIL && self.seen.insert(key(&after)) {
                 level.push(packed(&after));
@@ -71,7 +71,7 @@ impl Everything {
 
     fn deliver_each(&mut self, m: &Words, next: &mut Vec<Vec<(usize, u32)>>) -> bool {
         for slot in view::waiting(m) {
-            let mut after = Box::new(*m);
+            let mut after: Box<Words> = m.into();
             let answer = deliver(&mut after[..], slot, &mut [0; PAGE]);
             if [READ_ENDED, WRITE_ENDED].contains(&answer.code) && answer.client == self.client {
                 return true;

@@ -35,7 +35,7 @@ pub fn a_write(n: &Numbers, client: u32) -> (Call, u32, u32) {
 }
 
 pub fn started(m: &Words, start: Call) -> Box<Words> {
-    let mut words = Box::new(*m);
+    let mut words: Box<Words> = m.into();
     assert!(run(&mut words, start).answer.accepted());
     words
 }

@@ -8,7 +8,7 @@ use bench::{schedule, view};
 use copy::layout::SLOTS;
 use copy::line::Call;
 use copy::rehearsal::run;
-use copy::{Numbers, Rehearsal, Words};
+use copy::{Layout, Numbers, Rehearsal, Words};
 
 /// The list is found, has the promised length, and ends with the code when it is run.
 fn keeps_promise(m: &Words, client: u32, (start, price, code): (Call, u32, u32), told: &str) {
@@ -27,7 +27,7 @@ fn reached(seed: u64) -> Vec<(Box<Words>, String)> {
     for (at, line) in lines(&schedule(seed, 260)).enumerate() {
         machine.step(line);
         if at % 26 == 25 {
-            states.push((Box::new(*machine.words()), format!("seed {seed}, line {}", at + 1)));
+            states.push((machine.words().into(), format!("seed {seed}, line {}", at + 1)));
         }
     }
     states
@@ -60,17 +60,17 @@ fn sizes() -> Vec<Numbers> {
     let mut all = Vec::new();
     for (nd, nr, f) in (1..=5).flat_map(|nd| (2..=7).flat_map(move |nr| (0..4).map(move |f| (nd, nr, f)))) {
         for (rq, wq) in (1..=nd).flat_map(|rq| (1..=nd).map(move |wq| (rq, wq))) {
-            all.push(Numbers { nc: 1, nd, nr, f, rq, wq, top: 3 });
+            all.push(Numbers { nc: 1, nd, nr, f, rq, wq, top: 3, columns: 0 });
         }
     }
-    all.retain(Numbers::in_range);
+    all.retain(|n| n.in_range(Layout::Base));
     all
 }
 
 /// The worst that the premises bear: 21 empty slots and no more, and all who may be down.
 fn at_the_border(n: &Numbers) -> Box<Words> {
-    let mut words = Box::new([0; copy::WORDS]);
-    run(&mut words, Call::SetUp { numbers: *n, word: 7 });
+    let mut words: Box<Words> = Box::new([0; copy::WORDS]);
+    run(&mut words, Call::SetUp { layout: Layout::Base, numbers: *n, word: 7 });
     for _ in 0..SLOTS - 21 {
         run(&mut words, Call::Gossip { from: 1, to: 2 });
     }

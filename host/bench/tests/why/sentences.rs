@@ -6,11 +6,12 @@ use bench::view;
 use bench::why::{end, explain, tell, why};
 use copy::line::Call;
 use copy::rehearsal::run;
+use copy::Words;
 
 /// The lines, and deliveries of the lowest waiting message until none waits.
 fn drained(text: &str) -> String {
     let mut text = text.to_string();
-    let mut words = Box::new(*end(text.as_bytes()).words());
+    let mut words: Box<Words> = end(text.as_bytes()).words().into();
     while let Some(&slot) = view::waiting(&words).first() {
         assert!(run(&mut words, Call::Deliver { slot }).answer.accepted());
         text.push_str(&format!("D {slot}\n"));
@@ -329,7 +330,7 @@ fn says_of_each_phase_that_no_premise_fails() {
 #[test]
 fn says_that_it_is_ours() {
     let end = end(b"S 1 3 1 0 2 2 99 7\nR 1\n");
-    let mut words = Box::new(*end.words());
+    let mut words: Box<Words> = end.words().into();
     copy::mail::clear(&mut words, 1);
     copy::mail::clear(&mut words, 2);
     let told = tell(&explain(&words, end.starts(), TRIES));

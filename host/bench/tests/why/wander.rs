@@ -13,7 +13,7 @@ pub fn call(line: &str) -> Call {
 /// Some lines from a set-up on: few starts, so that little mail waits, and crashes near the end.
 pub fn wander(rng: &mut Prng, set_up: &str, most: u32, crashes: bool) -> String {
     let mut text = format!("{set_up}\n");
-    let mut words = Box::new([0; copy::WORDS]);
+    let mut words = vec![0; copy::WORDS];
     run(&mut words, call(set_up));
     let count = rng.between(0, most);
     for step in 0..count {
