@@ -77,24 +77,18 @@ const fn kind_form(kind: u32) -> KindForm {
 
 /// The numbers of a good machine, nothing for a bad one.
 pub fn numbers(m: &Words) -> Option<Numbers> {
-    match Layout::of(m) {
-        Layout::Base => inspect(row::<WORDS>(m)),
-        Layout::Wide => inspect(row::<WIDE_WORDS>(m)),
-    }
-}
-
-/// One inspection for each layout, so that every place in it is known beforehand.
-fn inspect<const N: usize>(m: &[u32; N]) -> Option<Numbers> {
     let n = Numbers::read(m);
     if !n.in_range(Layout::of(m)) {
         return None;
     }
+    // What stands behind the directories stands here as in base's machine, at places known beforehand.
+    let behind = row::<WORDS>(&m[later(m)..]);
     let mut strays = Strays([0; 4]);
     strays.gather(&m[NUMBERS..CLIENT_BASE]);
     let good = clients_good(m, &n, &mut strays)
         && directories_good(m, &n, &mut strays)
-        && replicas_good(m, &n, &mut strays)
-        && slots_good(m, &n, &mut strays);
+        && replicas_good(behind, &n, &mut strays)
+        && slots_good(behind, &n, &mut strays);
     (good && strays.none()).then_some(n)
 }
 
@@ -151,7 +145,7 @@ fn counts(id: u32, count: u32) -> bool {
     id.wrapping_sub(1) < count
 }
 
-fn clients_good<const N: usize>(m: &[u32; N], n: &Numbers, strays: &mut Strays) -> bool {
+fn clients_good(m: &Words, n: &Numbers, strays: &mut Strays) -> bool {
     let rows = m[CLIENT_BASE..DIRECTORY_BASE].chunks_exact(CLIENT_ROW);
     rows.zip(1..).all(|(words, id)| {
         let client = row::<CLIENT_ROW>(words);
@@ -183,7 +177,7 @@ fn client_good(client: &[u32; CLIENT_ROW], n: &Numbers, strays: &mut Strays) -> 
         & tag_good(tag_number, tag_client, n, used(true))
 }
 
-fn directories_good<const N: usize>(m: &[u32; N], n: &Numbers, strays: &mut Strays) -> bool {
+fn directories_good(m: &Words, n: &Numbers, strays: &mut Strays) -> bool {
     let rows = m[DIRECTORY_BASE..REPLICA_DOWN + later(m)].chunks_exact(DIRECTORY_ROW);
     rows.zip(1..).all(|(words, id)| {
         let directory = row::<DIRECTORY_ROW>(words);
@@ -197,11 +191,12 @@ fn directories_good<const N: usize>(m: &[u32; N], n: &Numbers, strays: &mut Stra
     })
 }
 
-fn replicas_good<const N: usize>(m: &[u32; N], n: &Numbers, strays: &mut Strays) -> bool {
-    let flags = &m[REPLICA_DOWN + later(m)..ENTRY_BASE + later(m)];
+#[inline(never)] // by itself its loops keep their registers: 4 % of all instructions
+fn replicas_good(m: &[u32; WORDS], n: &Numbers, strays: &mut Strays) -> bool {
+    let flags = &m[REPLICA_DOWN..ENTRY_BASE];
     // The spare words follow the flags, so all past the used ones must be zero.
     strays.gather(&flags[n.nr as usize..]);
-    let replicas = m[ENTRY_BASE + later(m)..SLOT_BASE + later(m)].chunks_exact(ENTRIES * ENTRY_ROW);
+    let replicas = m[ENTRY_BASE..SLOT_BASE].chunks_exact(ENTRIES * ENTRY_ROW);
     replicas.zip(flags).zip(1..).all(|((entries, &down), id)| {
         if id <= n.nr {
             (down <= 1) & entries_good(entries, n, strays)
@@ -235,9 +230,9 @@ fn entries_good(entries: &[u32], n: &Numbers, strays: &mut Strays) -> bool {
     secured
 }
 
-fn slots_good<const N: usize>(m: &[u32; N], n: &Numbers, strays: &mut Strays) -> bool {
+fn slots_good(m: &[u32; WORDS], n: &Numbers, strays: &mut Strays) -> bool {
     let parties = [n.nc, n.nd, n.nr];
-    m[SLOT_BASE + later(m)..].chunks_exact(SLOT_ROW).all(|words| {
+    m[SLOT_BASE..].chunks_exact(SLOT_ROW).all(|words| {
         let slot = row::<SLOT_ROW>(words);
         if slot[0] == 0 {
             strays.gather_row(slot);
