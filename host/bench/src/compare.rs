@@ -54,7 +54,7 @@ pub fn compare_all(program: &Path, schedules: &[Seeded]) -> Result<Tally, Differ
         return Err(narrow(program, schedules, line));
     }
     let mut tally = Tally { schedules: schedules.len() as u64, ..Tally::default() };
-    tally.add(&found);
+    tally.add(&input, &found);
     match order::check(&input, &found) {
         Ok(checked) => Ok(Tally { operations: checked.in_line as u64, ..tally }),
         Err(what) => Err(out_of_line(program, schedules, what)),

@@ -42,10 +42,10 @@ pub fn malformed(line: Option<&[u8]>) -> String {
         None => "the last line has no end".to_string(),
         Some([]) => "the line is empty".to_string(),
         Some(line) if line.len() > LONGEST => format!("the line has {} bytes; {LONGEST} are the most", line.len()),
-        Some([b'S' | b'R' | b'W' | b'D' | b'G' | b'T' | b'X', ..]) => {
+        Some([b'S' | b'C' | b'R' | b'W' | b'D' | b'G' | b'T' | b'X', ..]) => {
             "its fields are not those of its letter".to_string()
         }
-        Some(_) => "it begins with none of S, R, W, D, G, T, X".to_string(),
+        Some(_) => "it begins with none of S, C, R, W, D, G, T, X".to_string(),
     };
     format!("{}: {why}", names::code(BAD_ARGUMENT))
 }
@@ -123,7 +123,7 @@ pub fn bad_argument(n: &Numbers, call: Call) -> Option<String> {
     };
     let itself = |from, to| (from == to).then(|| "a replica does not gossip to itself".to_string());
     match call {
-        Call::SetUp { numbers, .. } => out_of_range(&numbers).map(String::from),
+        Call::SetUp { layout, numbers, .. } => out_of_range(layout, &numbers).map(String::from),
         Call::Read { client } | Call::Write { client, .. } => missing(Party::Client, client),
         Call::Deliver { slot } if within(slot, SLOTS as u32) => None,
         Call::Deliver { slot } => Some(format!("there is no slot {slot}: they are 1 to {SLOTS}")),
@@ -136,20 +136,42 @@ pub fn bad_argument(n: &Numbers, call: Call) -> Option<String> {
     }
 }
 
-/// The first rule of the table of ranges that a set-up breaks.
-fn out_of_range(n: &Numbers) -> Option<&'static str> {
-    let rules = [
+/// The first rule of the ranges that a set-up breaks.
+fn out_of_range(layout: Layout, n: &Numbers) -> Option<&'static str> {
+    let parties = [
         (within(n.nc, CLIENTS as u32), "clients are 1 to 8"),
-        (within(n.nd, DIRECTORIES as u32), "directories are 1 to 5"),
+        directories(layout, n),
         (within(n.nr, REPLICAS as u32), "replicas are 1 to 7"),
         (n.f <= 3, "f is 0 to 3"),
         (n.f.saturating_mul(2) < n.nr, "2f + 1 is more than the replicas"),
-        (within(n.rq, n.nd), "the read quorum is 1 to the number of directories"),
-        (within(n.wq, n.nd), "the write quorum is 1 to the number of directories"),
-        (n.rq.saturating_add(n.wq) > n.nd, "read and write quorum together are not more than the directories"),
-        (n.top >= 3, "top is 3 or more"),
     ];
+    let top = (n.top >= 3, "top is 3 or more");
+    let rules = parties.into_iter().chain(quorums(layout, n)).chain([top]);
     rules.into_iter().find(|(kept, _)| !kept).map(|(_, rule)| rule)
+}
+
+fn directories(layout: Layout, n: &Numbers) -> (bool, &'static str) {
+    match layout {
+        Layout::Base => (within(n.nd, DIRECTORIES as u32), "directories are 1 to 5"),
+        Layout::Wide => (n.nd >= 2 && n.nd <= WIDE_DIRECTORIES as u32, "directories in columns are 2 to 16"),
+    }
+}
+
+fn quorums(layout: Layout, n: &Numbers) -> [(bool, &'static str); 4] {
+    match layout {
+        Layout::Base => [
+            (n.columns == 0, "there are no columns beside a read and a write quorum"),
+            (within(n.rq, n.nd), "the read quorum is 1 to the number of directories"),
+            (within(n.wq, n.nd), "the write quorum is 1 to the number of directories"),
+            (n.rq.saturating_add(n.wq) > n.nd, "read and write quorum together are not more than the directories"),
+        ],
+        Layout::Wide => [
+            (n.rq == 0, "there is no read quorum beside columns"),
+            (n.wq == 0, "there is no write quorum beside columns"),
+            (within(n.columns, n.nd), "the columns are 1 to the number of directories"),
+            (n.nd.checked_rem(n.columns) == Some(0), "the directories do not stand in equal columns"),
+        ],
+    }
 }
 
 fn no_slot(m: &Words, call: Call) -> String {

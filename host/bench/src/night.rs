@@ -5,7 +5,7 @@ use crate::prng::Prng;
 use crate::view;
 use copy::layout::{entries_at, ENTRIES, ENTRY_ROW, GOSSIP, SECURE};
 use copy::replica::entries;
-use copy::{Layout, Numbers, Rehearsal, Tag, Words};
+use copy::{Numbers, Rehearsal, Tag, Words};
 
 const NUMBERS: Numbers = Numbers { nc: 8, nd: 5, nr: 7, f: 3, rq: 3, wq: 3, top: u32::MAX, columns: 0 };
 
@@ -21,7 +21,7 @@ pub fn night(lines: usize) -> Vec<u8> {
     let mut out = Vec::new();
     let mut word = 1;
     let mut count = 0;
-    let mut line = set_up_line(Layout::Base, &NUMBERS, word);
+    let mut line = set_up_line(&NUMBERS, word);
     while count < lines {
         // A refused line changes nothing, so it is just not written down.
         if machine.step(line.as_bytes()).answer.accepted() {

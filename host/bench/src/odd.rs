@@ -1,11 +1,18 @@
 //! Lines that a machine refuses for its numbers, and lines that are none.
 
 use crate::prng::Prng;
+use crate::profile::any_numbers;
+use copy::layout::NUMBERS;
 use copy::line::{parse, Call};
 use copy::{Layout, Numbers};
 
-/// The line of a set-up: what the other layout's machine has is left out.
-pub fn set_up_line(layout: Layout, n: &Numbers, word: u32) -> String {
+/// The set-up of numbers in range.
+pub fn set_up_line(n: &Numbers, word: u32) -> String {
+    line_in(n.layout(), n, word)
+}
+
+/// The set-up line of a layout, which has no place for the other's numbers.
+fn line_in(layout: Layout, n: &Numbers, word: u32) -> String {
     let Numbers { nc, nd, nr, f, rq, wq, top, columns } = n;
     match layout {
         Layout::Base => format!("S {nc} {nd} {nr} {f} {rq} {wq} {top} {word}"),
@@ -13,13 +20,24 @@ pub fn set_up_line(layout: Layout, n: &Numbers, word: u32) -> String {
     }
 }
 
+fn any_set_up(rng: &mut Prng) -> (Layout, Numbers) {
+    let layout = rng.pick(&Layout::ALL);
+    (layout, any_numbers(rng, layout))
+}
+
 /// A well-formed set-up with one number changed; now and then it is still in range.
-pub fn odd_set_up(rng: &mut Prng, n: &Numbers, word: u32) -> String {
-    let odd = rng.pick(&[0, 1, 2, 3, 4, 5, 6, 8, 9, 128, 2_147_483_648, 4_294_967_294, u32::MAX]);
-    let mut row = [n.nc, n.nd, n.nr, n.f, n.rq, n.wq, n.top];
-    row[rng.below(7)] = odd;
-    let [nc, nd, nr, f, rq, wq, top] = row;
-    set_up_line(Layout::Base, &Numbers { nc, nd, nr, f, rq, wq, top, columns: 0 }, word)
+fn odd_set_up(rng: &mut Prng, word: u32) -> String {
+    let (layout, n) = any_set_up(rng);
+    let near = [0, 1, 2, 3, 4, 5, 6, 8, 9, 16, 17, n.nd - 1, n.nd + 1];
+    let far = [128, 2_147_483_648, 4_294_967_294, u32::MAX];
+    let changed = match layout {
+        Layout::Base => rng.below(7),
+        Layout::Wide => rng.pick(&[0, 1, 2, 3, 6, 7]),
+    };
+    let mut row = [0; NUMBERS];
+    n.write(&mut row);
+    row[changed] = if rng.one_in(4) { rng.pick(&far) } else { rng.pick(&near) };
+    line_in(layout, &Numbers::read(&row), word)
 }
 
 /// A number just out of 1 to `count`, or far out.
@@ -31,10 +49,10 @@ fn outside(rng: &mut Prng, count: u32) -> u32 {
 pub fn refused(rng: &mut Prng, n: &Numbers, word: u32) -> String {
     let any_client = rng.between(1, n.nc);
     let any_replica = rng.between(1, n.nr);
-    match rng.below(16) {
+    match rng.below(18) {
         0 => format!("R {}", outside(rng, n.nc)),
         1 => format!("W {} {word}", outside(rng, n.nc)),
-        2 => format!("D {}", rng.pick(&[0, 129, 130, 256, 4992, u32::MAX])),
+        2 => format!("D {}", rng.pick(&[0, 129, 130, 256, 4992, 5036, u32::MAX])),
         3 | 4 => format!("D {}", rng.between(1, 128)),
         5 => format!("G {any_replica} {any_replica}"),
         6 => format!("G {any_replica} {}", outside(rng, n.nr)),
@@ -46,7 +64,7 @@ pub fn refused(rng: &mut Prng, n: &Numbers, word: u32) -> String {
         12 => format!("X 3 {}", outside(rng, n.nr)),
         13 => format!("R {any_client}"),
         14 => format!("W {any_client} {word}"),
-        _ => odd_set_up(rng, n, word),
+        _ => odd_set_up(rng, word),
     }
 }
 
@@ -68,7 +86,7 @@ pub fn malformed(rng: &mut Prng, n: &Numbers, word: u32) -> Vec<u8> {
 
 fn spoiled(rng: &mut Prng, n: &Numbers, word: u32) -> Vec<u8> {
     let good = match rng.below(7) {
-        0 => set_up_line(Layout::Base, n, word),
+        0 => set_up_line(&any_set_up(rng).1, word),
         1 => format!("R {}", rng.between(1, n.nc)),
         2 => format!("W {} {word}", rng.between(1, n.nc)),
         3 => format!("D {}", rng.between(1, 128)),
@@ -82,7 +100,7 @@ fn spoiled(rng: &mut Prng, n: &Numbers, word: u32) -> Vec<u8> {
 fn spoil(rng: &mut Prng, mut line: Vec<u8>) -> Vec<u8> {
     let at = rng.below(line.len() + 1);
     let inside = rng.below(line.len());
-    match rng.below(20) {
+    match rng.below(21) {
         0 => line.clear(),
         1 => line.push(b'\r'),
         2 => line.push(b' '),
@@ -101,7 +119,8 @@ fn spoil(rng: &mut Prng, mut line: Vec<u8>) -> Vec<u8> {
         15 => line.extend_from_slice(b" 00"),
         16 => line.splice(2.., too_great(rng).bytes()).for_each(drop),
         17 => line = (0..rng.below(100)).map(|_| any_byte(rng)).collect(),
-        18 => line.extend(vec![b' '; rng.pick(&[1, 76, 77, 78, 79, 80, 81, 300, 5000])]),
+        18 => line[0] = rng.pick(b"SCRWDGTX"),
+        19 => line.extend(vec![b' '; rng.pick(&[1, 76, 77, 78, 79, 80, 81, 300, 5000])]),
         _ => line = long_fields(rng),
     }
     line

@@ -3,11 +3,12 @@
 
 use crate::jam;
 use crate::odd;
+use crate::open;
 use crate::prng::Prng;
-use crate::profile::{Action, Profile};
+use crate::profile::{fewest_directories, Action, Profile};
 use crate::view;
-use copy::layout::{Party, CLIENT_BASE, CLIENT_ROW, GOSSIP, IDLE};
-use copy::{Layout, Numbers, Rehearsal, Shown, Words};
+use copy::layout::{bit, Party, CLIENT_BASE, CLIENT_ROW, GOSSIP, IDLE};
+use copy::{Numbers, Rehearsal, Shown, Words};
 
 /// Which messages are liked for a while: a random order alone seldom leaves anyone behind.
 struct Mood {
@@ -92,7 +93,7 @@ impl Generator {
         self.lines += 1;
         let shown = self.machine.step(line);
         // An odd set-up may by luck be accepted.
-        if line.first() == Some(&b'S') && shown.answer.accepted() {
+        if matches!(line.first(), Some(b'S' | b'C')) && shown.answer.accepted() {
             self.numbers = Numbers::read(self.m());
         }
         shown
@@ -131,7 +132,7 @@ impl Generator {
     fn set_up(&mut self) {
         let numbers = self.profile.numbers(&mut self.rng);
         let word = self.fresh_word();
-        self.say(odd::set_up_line(Layout::Base, &numbers, word));
+        self.say(odd::set_up_line(&numbers, word));
     }
 
     /// Before the first set-up: the zero words are a bad machine.
@@ -232,7 +233,8 @@ impl Generator {
 
     fn start_as(&mut self, client: u32) {
         // Hoarders and spenders write, to have many tags about.
-        let writes = matches!(self.profile, Profile::Crowded | Profile::SmallTop) && self.numbers.nd == 1;
+        let few = self.numbers.nd == fewest_directories(self.numbers.layout());
+        let writes = matches!(self.profile, Profile::Crowded | Profile::SmallTop) && few;
         if self.rng.one_in(2) || (writes && !self.rng.one_in(8)) {
             let word = self.fresh_word();
             self.say(format!("W {client} {word}"));
@@ -256,29 +258,51 @@ impl Generator {
 
     /// Mostly within what the quorums and f bear, so that operations still end.
     fn crash(&mut self) {
-        let n = self.numbers;
-        let (kind, party, count, bearable) = match self.rng.below(4) {
-            0 | 1 => (1, Party::Client, n.nc, n.nc - 1),
-            2 => (2, Party::Directory, n.nd, n.nd - n.rq.max(n.wq)),
-            _ => (3, Party::Replica, n.nr, n.f),
+        let (kind, id) = match self.rng.below(5) {
+            0 | 1 => (1, self.crashing_client()),
+            2 | 3 => (2, self.crashing_directory()),
+            _ => (3, self.rng.between(1, self.numbers.nr)),
         };
-        if view::down_count(self.m(), party, count) < bearable || self.rng.one_in(8) {
-            let id = if kind == 1 { self.crashing_client() } else { self.rng.between(1, count) };
+        if self.bearable(kind, id) || self.rng.one_in(8) {
             self.say(format!("X {kind} {id}"));
         } else {
             self.deliver();
         }
     }
 
+    /// Whether operations can still end without this party.
+    fn bearable(&self, kind: u32, id: u32) -> bool {
+        let n = self.numbers;
+        let left = |party, count| open::up(self.m(), party, count) & !bit(id);
+        match kind {
+            1 => left(Party::Client, n.nc) != 0,
+            2 => {
+                let directories = left(Party::Directory, n.nd);
+                n.enough_to_read(directories) && n.enough_to_write(directories)
+            }
+            _ => left(Party::Replica, n.nr).count_ones() >= n.nr - n.f,
+        }
+    }
+
     /// A client in the middle of an operation tells more than an idle one.
     fn crashing_client(&mut self) -> u32 {
-        let n = self.numbers;
         let phase = |id: u32| self.m()[CLIENT_BASE + (id as usize - 1) * CLIENT_ROW + 1];
-        let busy: Vec<u32> = (1..=n.nc).filter(|&id| phase(id) != IDLE).collect();
-        if busy.is_empty() {
-            self.rng.between(1, n.nc)
+        let busy: Vec<u32> = (1..=self.numbers.nc).filter(|&id| phase(id) != IDLE).collect();
+        self.liked_or_any(&busy, self.numbers.nc)
+    }
+
+    /// In columns few can be spared, so that one taken at random is seldom among them.
+    fn crashing_directory(&mut self) -> u32 {
+        let up = open::up(self.m(), Party::Directory, self.numbers.nd);
+        let spared: Vec<u32> = open::members(up).filter(|&id| self.bearable(2, id)).collect();
+        self.liked_or_any(&spared, self.numbers.nd)
+    }
+
+    fn liked_or_any(&mut self, liked: &[u32], count: u32) -> u32 {
+        if liked.is_empty() {
+            self.rng.between(1, count)
         } else {
-            self.rng.pick(&busy)
+            self.rng.pick(liked)
         }
     }
 }
@@ -286,14 +310,37 @@ impl Generator {
 impl Mood {
     fn new(rng: &mut Prng, n: &Numbers) -> Mood {
         let favourite = if rng.one_in(2) { rng.between(1, n.nc) } else { 0 };
-        let quiet = |rng: &mut Prng| if rng.one_in(2) { rng.word() as u32 & rng.word() as u32 } else { 0 };
         Mood {
             favourite,
-            quiet_directories: quiet(rng),
+            quiet_directories: quiet_directories(rng, n),
             quiet_replicas: quiet(rng),
             order: rng.pick(&[Order::Any, Order::Any, Order::Lowest, Order::Highest]),
             filling: rng.one_in(2),
             left: 5 + rng.below(50),
         }
     }
+}
+
+/// Nobody, or about a quarter.
+fn quiet(rng: &mut Prng) -> u32 {
+    if rng.one_in(2) {
+        rng.word() as u32 & rng.word() as u32
+    } else {
+        0
+    }
+}
+
+/// In columns also all but one column, which is just enough to read, or all but one of each, which
+/// is just enough to write.
+fn quiet_directories(rng: &mut Prng, n: &Numbers) -> u32 {
+    let columns: Vec<u32> = n.column_sets().collect();
+    match rng.below(4) {
+        0 if n.columns > 0 => !rng.pick(&columns),
+        1 if n.columns > 0 => !columns.iter().map(|&column| one_of(rng, column)).sum::<u32>(),
+        _ => quiet(rng),
+    }
+}
+
+fn one_of(rng: &mut Prng, set: u32) -> u32 {
+    bit(rng.pick(&open::members(set).collect::<Vec<u32>>()))
 }

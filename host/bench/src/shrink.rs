@@ -5,11 +5,12 @@ use crate::external;
 use crate::history::{lines, raw_lines};
 use crate::names;
 use crate::odd::set_up_line;
+use crate::profile::divisors;
 use crate::steps::{concrete, steps, Step};
 use crate::tally::counted;
 use copy::answer::BAD_ARGUMENT;
 use copy::line::{parse, Call};
-use copy::{Layout, Numbers, Rehearsal};
+use copy::{Numbers, Rehearsal};
 use std::fmt;
 use std::path::Path;
 
@@ -111,9 +112,9 @@ impl<F: Fn(&[u8]) -> Option<usize>> Search<F> {
     fn by_numbers(&mut self, schedule: Vec<u8>) -> Vec<u8> {
         let all = steps(&schedule);
         let set_up = raw_lines(&schedule).enumerate().find_map(|(at, raw)| Some((at, numbers_of(raw)?)));
-        let Some((at, (layout, numbers, word))) = set_up else { return schedule };
-        for smaller in smaller(layout, numbers) {
-            let line = format!("{}\n", set_up_line(layout, &smaller, word));
+        let Some((at, (numbers, word))) = set_up else { return schedule };
+        for smaller in smaller(numbers) {
+            let line = format!("{}\n", set_up_line(&smaller, word));
             let mut tried = all.clone();
             tried[at] = Step::Line(line.as_bytes());
             let text = concrete(&tried).0;
@@ -162,19 +163,19 @@ impl<F: Fn(&[u8]) -> Option<usize>> Search<F> {
     }
 }
 
-/// The layout, the numbers and the word of a set-up that would be accepted.
-fn numbers_of(raw: &[u8]) -> Option<(Layout, Numbers, u32)> {
+/// The numbers and the word of a set-up that would be accepted.
+fn numbers_of(raw: &[u8]) -> Option<(Numbers, u32)> {
     match raw.strip_suffix(b"\n").and_then(parse)? {
-        Call::SetUp { layout, numbers, word } if numbers.in_range(layout) => Some((layout, numbers, word)),
+        Call::SetUp { layout, numbers, word } if numbers.in_range(layout) => Some((numbers, word)),
         _ => None,
     }
 }
 
-/// One number less, or two that belong together; and the top at once as low as it can be.
-fn smaller(layout: Layout, n: Numbers) -> impl Iterator<Item = Numbers> {
+/// One number less, or two that belong together; and at once as low as it can be.
+fn smaller(n: Numbers) -> impl Iterator<Item = Numbers> {
     let less = |value: u32| value.saturating_sub(1);
     let tried = [
-        Numbers { nd: 1, rq: 1, wq: 1, ..n },
+        Numbers { nd: 1, rq: 1, wq: 1, columns: 0, ..n },
         Numbers { nr: 1, f: 0, ..n },
         Numbers { nc: less(n.nc), ..n },
         Numbers { nd: less(n.nd), rq: less(n.rq), ..n },
@@ -187,5 +188,18 @@ fn smaller(layout: Layout, n: Numbers) -> impl Iterator<Item = Numbers> {
         Numbers { top: n.top / 2, ..n },
         Numbers { top: less(n.top).min(99), ..n },
     ];
-    tried.into_iter().filter(move |smaller| *smaller != n && smaller.in_range(layout))
+    let tried = tried.into_iter().chain(fewer_in_columns(n));
+    tried.filter(move |smaller| *smaller != n && smaller.in_range(smaller.layout()))
+}
+
+/// Two directories, one row less, one column less, or as many directories in fewer columns.
+fn fewer_in_columns(n: Numbers) -> Vec<Numbers> {
+    let Numbers { nd, columns, .. } = n;
+    if columns == 0 {
+        return Vec::new();
+    }
+    let shapes = [(2, 1), (2, 2), (nd - columns, columns), (nd - nd / columns, columns - 1)];
+    let narrower = divisors(nd).into_iter().map(|fewer| (nd, fewer));
+    let fewer = shapes.into_iter().chain(narrower).filter(|&shape| shape < (nd, columns));
+    fewer.map(|(nd, columns)| Numbers { nd, columns, ..n }).collect()
 }

@@ -201,7 +201,7 @@ fn a_million_refused_lines() {
     let told = bench(&["tell", refused.path()]);
     assert!(told.status.success());
     assert_eq!(out(&told).lines().count(), 1_000_001);
-    assert!(out(&told).ends_with("1000001: Q -> 18 BAD ARGUMENT: it begins with none of S, R, W, D, G, T, X\n"));
+    assert!(out(&told).ends_with("1000001: Q -> 18 BAD ARGUMENT: it begins with none of S, C, R, W, D, G, T, X\n"));
 }
 
 /// On a full disk every command that prints fails and says so; where the reader goes away, it ends quietly.

@@ -65,7 +65,7 @@ fn a_difference_ends_it() {
 #[test]
 fn what_is_told() {
     let mut tally = Tally { schedules: 3, operations: 2, ..Tally::default() };
-    tally.codes[0] = 50;
+    (tally.base.codes[0], tally.wide.codes[0]) = (30, 20);
     assert_eq!(told(9, &tally, 10), "seed 9: 3 schedules, 50 lines agree; 2 operations in line; 10 minutes");
     let left = |seconds| so_far(&tally, Duration::from_secs(seconds));
     assert_eq!(left(61), "3 schedules, 50 lines, 2 operations; 2 minutes left");

@@ -76,7 +76,7 @@ fn lines_that_are_no_call() {
         ("\n", "the line is empty"),
         ("R 1", "the last line has no end"),
         ("R 01\n", "its fields are not those of its letter"),
-        ("r 1\n", "it begins with none of S, R, W, D, G, T, X"),
+        ("r 1\n", "it begins with none of S, C, R, W, D, G, T, X"),
         (long.as_str(), "the line has 81 bytes; 80 are the most"),
     ] {
         means(line, &format!("18 BAD ARGUMENT: {why}"));

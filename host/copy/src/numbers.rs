@@ -25,6 +25,14 @@ impl Numbers {
         m[..row.len()].copy_from_slice(&row);
     }
 
+    /// The one layout that they can be in range of.
+    pub fn layout(&self) -> Layout {
+        match self.columns {
+            0 => Layout::Base,
+            _ => Layout::Wide,
+        }
+    }
+
     pub fn in_range(&self, layout: Layout) -> bool {
         within(self.nc, CLIENTS as u32)
             && within(self.nd, layout.directories() as u32)
