@@ -57,8 +57,20 @@ fn single_schedules() {
 fn odd_inputs() {
     let program = program();
     let long = [&b"S 1 1 1 0 1 1 6 7\n"[..], &vec![b'9'; 300_000], b"\nR 1\n"].concat();
-    let inputs: [&[u8]; 8] =
-        [b"", b"\n", b"\n\n\n", b"R 1", b"S 1 1 1 0 1 1 6 7", b"\0\n\xff\n\r\n", b"S 1 1 1 0 1 1 6 7\nR 1", &long];
+    let inputs: [&[u8]; 12] = [
+        b"",
+        b"\n",
+        b"\n\n\n",
+        b"R 1",
+        b"S 1 1 1 0 1 1 6 7",
+        b"\0\n\xff\n\r\n",
+        b"S 1 1 1 0 1 1 6 7\nR 1",
+        &long,
+        b"C 1 2 1 0 1 6 7",
+        b"C 1 2 1 0 1 6 7\nR 1",
+        b"C 1 2 1 0 0 6 7\nR 1\n",
+        b"S 1 1 1 0 1 1 6 7\nC 1 4 1 0 3 6 7\nR 1\nC 1 4 1 0 2 6 7\nR 1\nS 1 1 1 0 1 0 6 7\nR 1\nD 4\n",
+    ];
     for input in inputs {
         agreed(compare_all(&program, &[Seeded { seed: 0, input: input.to_vec() }]));
     }

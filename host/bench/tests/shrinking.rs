@@ -71,7 +71,7 @@ fn shrunk(input: &[u8], code: u32) -> Shrunk {
 #[test]
 fn codes_in_small_schedules() {
     let mut seen = 0;
-    for seed in 0..10 {
+    for seed in 0..12 {
         let input = schedule(seed, 1500);
         for code in (0..=5).chain(17..=24).filter(|&code| has(&input, code)) {
             let found = shrunk(&input, code);
@@ -86,7 +86,7 @@ fn codes_in_small_schedules() {
             seen += 1;
         }
     }
-    assert!(seen > 90, "few codes were seen: {seen}");
+    assert!(seen > 100, "few codes were seen: {seen}");
 }
 
 /// A full replica has 12 entries, so it takes 13 writes: a long schedule comes down to about that.
@@ -95,7 +95,7 @@ fn a_full_replica_in_a_long_schedule() {
     for seed in [3, 8, 13] {
         let found = shrunk(&schedule(seed, 100_000), 23);
         assert!(found.ended && lines(&found.schedule).count() < 120, "seed {seed}: {found}");
-        assert!(found.schedule.starts_with(b"S "));
+        assert!(matches!(found.schedule.first(), Some(b'S' | b'C')));
     }
 }
 
