@@ -40,9 +40,7 @@ pub fn so_far(tally: &Tally, left: Duration) -> String {
     format!("{schedules} schedules, {} lines, {operations} operations; {minutes} left", tally.lines())
 }
 
-/// The last line, for a log.
+/// What agreed, for a log.
 pub fn told(seed: u64, tally: &Tally, minutes: u64) -> String {
-    let Tally { schedules, operations, .. } = tally;
-    let (lines, minutes) = (tally.lines(), counted(minutes, "minute"));
-    format!("seed {seed}: {schedules} schedules, {lines} lines agree; {operations} operations in line; {minutes}")
+    format!("seed {seed}, {}: all agree: {tally}", counted(minutes, "minute"))
 }

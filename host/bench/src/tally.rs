@@ -84,14 +84,16 @@ impl Sort {
 impl fmt::Display for Tally {
     fn fmt(&self, f: &mut fmt::Formatter<'_>) -> fmt::Result {
         let Tally { base, wide, schedules, operations } = self;
-        write!(f, "{schedules} schedules, {} lines, {operations} operations in line", self.lines())?;
-        write!(f, "; by counts: {base}; in columns: {wide}")
+        writeln!(f, "{schedules} schedules, {} lines, {operations} operations in line", self.lines())?;
+        write!(f, "by counts: {base}\nin columns: {wide}")
     }
 }
 
 impl fmt::Display for Sort {
     fn fmt(&self, f: &mut fmt::Formatter<'_>) -> fmt::Result {
-        write!(f, "{} set-ups, {} reads and {} writes ended, codes", self.set_ups, self.reads(), self.writes())?;
+        let [set_ups, reads, writes] = [(self.set_ups, "set-up"), (self.reads(), "read"), (self.writes(), "write")]
+            .map(|(n, what)| counted(n, what));
+        write!(f, "{set_ups}, {reads} and {writes} ended, codes")?;
         let used = self.codes.iter().enumerate().filter(|(_, &count)| count > 0);
         used.into_iter().try_for_each(|(code, count)| write!(f, " {code}:{count}"))
     }

@@ -37,6 +37,16 @@ fn words_are_distinct() {
     }
 }
 
+#[test]
+fn lines_count_at_the_machine_that_they_ask() {
+    let input = b"R 1\nC 1 4 1 0 3 6 7\nC 1 4 1 0 2 6 7\nR 1\nS 1 1 1 0 1 0 6 7\nR 1\nQ\n\
+        S 1 1 1 0 1 1 6 7\nR 1\nC 1 2 1 0 1 6 7";
+    let mut tally = Tally::default();
+    tally.add(input, &copy_output(input));
+    assert_eq!(tally.base.to_string(), "1 set-up, 0 reads and 0 writes ended, codes 0:2 17:1 18:2");
+    assert_eq!(tally.wide.to_string(), "1 set-up, 0 reads and 0 writes ended, codes 0:2 18:2 20:1");
+}
+
 /// Every code that lines can reach comes on both machines, and operations end.
 #[test]
 fn schedules_go_deep() {

@@ -66,8 +66,12 @@ fn a_difference_ends_it() {
 fn what_is_told() {
     let mut tally = Tally { schedules: 3, operations: 2, ..Tally::default() };
     (tally.base.codes[0], tally.wide.codes[0]) = (30, 20);
-    assert_eq!(told(9, &tally, 10), "seed 9: 3 schedules, 50 lines agree; 2 operations in line; 10 minutes");
+    (tally.wide.set_ups, tally.wide.codes[1], tally.wide.codes[2]) = (1, 2, 1);
+    let expected = "seed 9, 10 minutes: all agree: 3 schedules, 53 lines, 2 operations in line\n\
+        by counts: 0 set-ups, 0 reads and 0 writes ended, codes 0:30\n\
+        in columns: 1 set-up, 2 reads and 1 write ended, codes 0:20 1:2 2:1";
+    assert_eq!(told(9, &tally, 10), expected);
     let left = |seconds| so_far(&tally, Duration::from_secs(seconds));
-    assert_eq!(left(61), "3 schedules, 50 lines, 2 operations; 2 minutes left");
-    assert_eq!(left(60), "3 schedules, 50 lines, 2 operations; 1 minute left");
+    assert_eq!(left(61), "3 schedules, 53 lines, 2 operations; 2 minutes left");
+    assert_eq!(left(60), "3 schedules, 53 lines, 2 operations; 1 minute left");
 }

@@ -4,7 +4,7 @@ mod common;
 use common::*;
 use copy::answer::*;
 use copy::layout::*;
-use copy::{crash, deliver, gossip, report, set_up, start_read, start_write, tidy, Report};
+use copy::{crash, deliver, gossip, machine, report, set_up, start_read, start_write, tidy, Report};
 
 fn set_up_code(nc: u32, nd: u32, nr: u32, f: u32, rq: u32, wq: u32, top: u32) -> u32 {
     set_up(&mut vec![0; WORDS], numbers(nc, nd, nr, f, rq, wq, top), &[0; 16]).code
@@ -51,25 +51,27 @@ fn worn_at_the_edge() {
 
 #[test]
 fn sizes() {
-    let ok = numbers(1, 1, 1, 0, 1, 1, 9);
-    assert_eq!(set_up(&mut vec![0; WORDS - 1], ok, &[0; 16]).code, SIZE);
-    assert_eq!(set_up(&mut vec![0; WORDS], ok, &[0; 15]).code, SIZE);
-    let mut long = vec![7; WORDS + 3];
-    assert_eq!(set_up(&mut long, ok, &[0; 16]).code, DONE);
-    assert_eq!(long[WORDS..], [7, 7, 7]);
-    let short = &mut long[..WORDS - 1];
-    let all_short = [
-        start_read(short, 1).code,
-        start_write(short, 1, &[0; 16]).code,
-        deliver(short, 1, &mut [0; 16]).code,
-        gossip(short, 1, 1).code,
-        tidy(short, 1).code,
-        crash(short, 1, 1).code,
-        report(short).code,
-    ];
-    assert_eq!(all_short, [SIZE; 7]);
-    assert_eq!(start_write(&mut long, 0, &[0; 17]).code, SIZE);
-    assert_eq!(deliver(&mut long, 0, &mut []).code, SIZE);
+    for (layout, ok) in [(Layout::Base, numbers(1, 1, 1, 0, 1, 1, 9)), (Layout::Wide, in_columns(1, 2, 1, 0, 2, 9))] {
+        let words = layout.words();
+        assert_eq!(machine::set_up(layout, &mut vec![0; words - 1], ok, &[0; 16]).code, SIZE);
+        assert_eq!(machine::set_up(layout, &mut vec![0; words], ok, &[0; 15]).code, SIZE);
+        let mut long = vec![7; words + 3];
+        assert_eq!(machine::set_up(layout, &mut long, ok, &[0; 16]).code, DONE);
+        assert_eq!(long[words..], [7, 7, 7]);
+        let short = &mut long[..words - 1];
+        let all_short = [
+            machine::start_read(layout, short, 1).code,
+            machine::start_write(layout, short, 1, &[0; 16]).code,
+            machine::deliver(layout, short, 1, &mut [0; 16]).code,
+            machine::gossip(layout, short, 1, 1).code,
+            machine::tidy(layout, short, 1).code,
+            machine::crash(layout, short, 1, 1).code,
+            machine::report(layout, short).code,
+        ];
+        assert_eq!(all_short, [SIZE; 7]);
+        assert_eq!(machine::start_write(layout, &mut long, 0, &[0; 17]).code, SIZE);
+        assert_eq!(machine::deliver(layout, &mut long, 0, &mut []).code, SIZE);
+    }
 }
 
 #[test]

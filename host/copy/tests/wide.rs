@@ -85,32 +85,22 @@ fn columns_in_the_base_machine() {
     }
 }
 
+/// 5,036 words, and none behind them is written; 5,035 are too few, and base's 4,992 are.
 #[test]
-fn sizes() {
+fn words_of_a_machine() {
     let n = in_columns(1, 2, 1, 0, 2, 9);
-    assert_eq!(set_up(&mut vec![0; WIDE_WORDS - 1], n, &[0; 16]).code, SIZE);
-    assert_eq!(set_up(&mut vec![0; WORDS], n, &[0; 16]).code, SIZE);
-    assert_eq!(set_up(&mut vec![0; WIDE_WORDS], n, &[0; 15]).code, SIZE);
-    let mut long = vec![7; WIDE_WORDS + 3];
-    assert_eq!(set_up(&mut long, n, &[0; 16]).code, DONE);
-    let short = &mut long[..WIDE_WORDS - 1];
-    let all_short = [
-        start_read(short, 1).code,
-        start_write(short, 1, &[0; 16]).code,
-        deliver(short, 1, &mut [0; 16]).code,
-        gossip(short, 1, 1).code,
-        tidy(short, 1).code,
-        crash(short, 1, 1).code,
-        report(short).code,
-    ];
-    assert_eq!(all_short, [SIZE; 7]);
-    assert_eq!(start_write(&mut long, 0, &[0; 17]).code, SIZE);
-    assert_eq!(deliver(&mut long, 0, &mut []).code, SIZE);
-    assert_eq!(start_write(&mut long, 1, &page(5)).code, DONE);
-    for _ in 0..5 {
-        assert_eq!(deliver(&mut long, 1, &mut [0; 16]).code, DONE);
+    for (length, code) in [(WORDS, SIZE), (5035, SIZE), (5036, DONE), (5039, DONE)] {
+        let mut m = vec![7; length];
+        assert_eq!(set_up(&mut m, n, &[0; 16]).code, code, "{length}");
+        assert_eq!(start_write(&mut m, 1, &page(5)).code, code, "{length}");
+        for _ in 0..5 {
+            assert_eq!(deliver(&mut m, 1, &mut [0; 16]).code, code, "{length}");
+        }
+        assert_eq!(tidy(&mut m, 1).code, code, "{length}");
+        assert_eq!(report(&mut m).code, code, "{length}");
+        let kept = if code == SIZE { 0 } else { 5036 };
+        assert!(m[kept..].iter().all(|&word| word == 7), "{length}");
     }
-    assert_eq!(long[WIDE_WORDS..], [7, 7, 7]);
 }
 
 /// Where everything stands after a set-up, by the numbers of the paper.
