@@ -191,7 +191,7 @@ fn directories_good(m: &Words, n: &Numbers, strays: &mut Strays) -> bool {
     })
 }
 
-#[inline(never)] // by itself its loops keep their registers: 4 % of all instructions
+#[inline(never)] // by itself its loops keep their registers, which saves 8 % of all instructions
 fn replicas_good(m: &[u32; WORDS], n: &Numbers, strays: &mut Strays) -> bool {
     let flags = &m[REPLICA_DOWN..ENTRY_BASE];
     // The spare words follow the flags, so all past the used ones must be zero.
