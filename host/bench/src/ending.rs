@@ -4,13 +4,13 @@
 //! the first list found is a shortest one. Where the tries are used up, as many again go
 //! without a limit, for any list at all.
 
-use crate::least::{least, slots_short};
+use crate::least::{least, wants_slots};
 use crate::open::{Open, Part};
 use crate::view;
 use copy::answer::{Answer, READ_ENDED, WRITE_ENDED};
 use copy::layout::*;
 use copy::line::Call;
-use copy::{deliver, rehearsal, Words};
+use copy::{rehearsal, Words};
 use std::collections::HashMap;
 use std::hash::{DefaultHasher, Hash, Hasher};
 
@@ -115,7 +115,7 @@ impl Search {
             }
             self.tries += 1;
             let mut after = copied(m);
-            let answer = deliver(&mut after[..], slot, &mut [0; PAGE]);
+            let answer = rehearsal::run(&mut after, Call::Deliver { slot }).answer;
             self.list.push(slot);
             if ends(&answer, self.client) || (answer.accepted() && self.worth(&after) && self.go(&after)) {
                 return true;
@@ -153,7 +153,7 @@ impl Search {
         };
         let spared = least(m, &open).is_some_and(|to_come| self.list.len() as u32 + to_come < self.most);
         let mut slots: Vec<u32> = of(Part::Reply).chain(of(Part::Request)).collect();
-        if spared || slots_short(m, &open) > 0 {
+        if spared || wants_slots(m, &open) {
             slots.extend(of(Part::Other));
         } else if of(Part::Other).next().is_some() {
             self.cut(self.most + 1);
@@ -165,9 +165,10 @@ impl Search {
 /// A machine but for the places of its messages: they tell nothing of what can follow. Equal
 /// keys of unequal machines are next to impossible, and could hide a list but not make one.
 pub fn key(m: &Words) -> u64 {
-    let mail = m[SLOT_BASE..].chunks_exact(SLOT_ROW).filter(|row| row[0] != 0);
+    let (tables, slots) = m.split_at(slot_at(m, 1));
+    let mail = slots.chunks_exact(SLOT_ROW).filter(|row| row[0] != 0);
     let bag = mail.fold(0u64, |sum, row| sum.wrapping_add(hash(row)));
-    hash(&m[..SLOT_BASE]).wrapping_add(bag)
+    hash(tables).wrapping_add(bag)
 }
 
 fn hash(words: &[u32]) -> u64 {

@@ -9,21 +9,40 @@ use copy::{Numbers, Words};
 ///
 /// An answer counts when its reply is delivered. A reply that does not wait is made by no
 /// delivery but that of its request. What later phases ask is sent under a later number, so
-/// nothing of it waits now. That makes `left`, whatever else is delivered in between.
+/// nothing of it waits now. That makes `deliveries`, whatever else is delivered in between.
 /// A delivery empties one slot at most, and an answered request none: its reply takes the
 /// place. So where the replies do not empty enough for what the phases send, each slot that
-/// is short takes a delivery more, of some other message.
+/// is short takes a delivery more, of some other message. Each way is asked by itself: one with
+/// more answers empties more slots.
 pub fn least(m: &Words, open: &Open) -> Option<u32> {
-    can_end(m, open).then(|| open.left() + slots_short(m, open))
+    ways(m, open).into_iter().map(|way| open.deliveries(way) + slots_short(m, open, way)).min()
+}
+
+/// Whether the slots that are short call for deliveries of other messages.
+pub fn wants_slots(m: &Words, open: &Open) -> bool {
+    ways(m, open).into_iter().any(|way| slots_short(m, open, way) > 0)
+}
+
+/// The ways that deliveries can go. None brings a party up, frees an entry, lowers a number or
+/// sends a request again; and a tag still to be chosen is at no replica yet.
+fn ways(m: &Words, open: &Open) -> Vec<u32> {
+    let Numbers { nd, nr, .. } = open.numbers;
+    let directories = up(m, Party::Directory, nd);
+    let replicas = up(m, Party::Replica, nr);
+    if open.row.down == 0 && goes_on(m, open, directories, replicas) {
+        open.ways(able(m, open, directories, replicas))
+    } else {
+        Vec::new()
+    }
 }
 
 /// Slots that the replies to come do not empty, of those that the phases fill.
-pub fn slots_short(m: &Words, open: &Open) -> u32 {
+fn slots_short(m: &Words, open: &Open, way: u32) -> u32 {
     let mut room = i64::from(empty_slots(m));
     let mut short = 0;
     for phase in open.row.phase..=open.last() {
         let present = phase == open.row.phase;
-        let heard = if present { open.missing() } else { answers(phase, &open.numbers) };
+        let heard = if present { way.count_ones() } else { answers(phase, &open.numbers) };
         room += i64::from(heard) - i64::from(sent_after(open, phase));
         short = short.max(-room);
     }
@@ -44,20 +63,16 @@ fn sent_after(open: &Open, phase: u32) -> u32 {
     }
 }
 
-/// False where no delivery can help: none brings a party up, frees an entry, lowers a number
-/// or sends a request again; and a tag still to be chosen is at no replica yet.
-fn can_end(m: &Words, open: &Open) -> bool {
-    let Numbers { nd, nr, f, wq, .. } = open.numbers;
-    let directories = up(m, Party::Directory, nd);
-    let replicas = up(m, Party::Replica, nr);
-    let later = match open.row.phase {
-        RDR => directories.count_ones() >= wq && replicas != 0,
+/// False where nobody is left for a phase behind the present one.
+fn goes_on(m: &Words, open: &Open, directories: u32, replicas: u32) -> bool {
+    let Numbers { nr, f, .. } = open.numbers;
+    match open.row.phase {
+        RDR => open.numbers.enough_to_write(directories) && replicas != 0,
         RDW => replicas & open.row.set != 0,
-        WDR => directories.count_ones() >= wq && (replicas & with_room(m, nr)).count_ones() > f,
-        WRW => directories.count_ones() >= wq,
+        WDR => open.numbers.enough_to_write(directories) && (replicas & with_room(m, nr)).count_ones() > f,
+        WRW => open.numbers.enough_to_write(directories),
         _ => true,
-    };
-    open.row.down == 0 && later && able(m, open, directories, replicas).count_ones() >= open.missing()
+    }
 }
 
 /// Parties that may still answer in the present phase, and not end a write as SPENT.

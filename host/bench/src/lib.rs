@@ -26,6 +26,7 @@ pub mod order;
 pub mod printed;
 
 // A machine in words.
+pub mod columns;
 pub mod meaning;
 pub mod names;
 pub mod newest;

@@ -2,7 +2,7 @@
 
 use crate::open::members;
 use copy::answer::*;
-use copy::layout::{bit, Party};
+use copy::layout::Party;
 use copy::Tag;
 
 /// The table of codes.
@@ -85,11 +85,19 @@ pub fn parties(party: Party, set: u32) -> String {
         Party::Directory => ("directory", "directories"),
         Party::Replica => ("replica", "replicas"),
     };
-    let last = members(set).last().unwrap_or(0);
-    match set.count_ones() {
+    let ids: Vec<String> = members(set).map(|id| id.to_string()).collect();
+    match ids.len() {
         0 => format!("no {one}"),
-        1 => format!("{one} {last}"),
-        _ => format!("{many} {} and {last}", commas(set & !bit(last))),
+        1 => format!("{one} {}", listed(&ids)),
+        _ => format!("{many} {}", listed(&ids)),
+    }
+}
+
+/// "1, 2 and 4".
+pub fn listed(names: &[String]) -> String {
+    match names {
+        [before @ .., last] if !before.is_empty() => format!("{} and {last}", before.join(", ")),
+        _ => names.concat(),
     }
 }
 

@@ -1,5 +1,6 @@
 //! An operation that is open: its row, its own mail, and how many deliveries are left to it.
 
+use crate::columns::height;
 use crate::view;
 use copy::client::Client;
 use copy::directory::Directory;
@@ -16,6 +17,16 @@ pub struct Open {
     pub asked: u32,
     /// Parties that have not answered and whose reply of the present round waits.
     pub replied: u32,
+    /// Parties of the sort that the present phase asks, that are up.
+    pub up: u32,
+}
+
+/// What a phase must hear.
+#[derive(Clone, Copy, PartialEq, Eq, Debug)]
+pub enum Enough {
+    Count(u32),
+    WholeColumn,
+    EachColumn,
 }
 
 /// What a message is to an open operation.
@@ -44,7 +55,9 @@ impl Open {
         if row.phase == IDLE {
             return None;
         }
-        let mut open = Open { client, row, numbers: Numbers::read(m), asked: 0, replied: 0 };
+        let mut open = Open { client, row, numbers: Numbers::read(m), asked: 0, replied: 0, up: 0 };
+        let party = open.party();
+        open.up = up(m, party, view::count_of(party, &open.numbers));
         for message in view::waiting(m).into_iter().filter_map(|slot| view::message(m, slot)) {
             match open.part(&message) {
                 Part::Request => open.asked |= bit(message.to),
@@ -80,37 +93,76 @@ impl Open {
         }
     }
 
-    /// Answers that the present phase still wants.
-    pub fn missing(&self) -> u32 {
-        answers(self.row.phase, &self.numbers).saturating_sub(self.row.answered.count_ones())
+    /// The sort of party that the present phase asks.
+    pub fn party(&self) -> Party {
+        match self.row.phase {
+            RRR | WRW => Party::Replica,
+            _ => Party::Directory,
+        }
     }
 
-    /// Deliveries still to come: a missing answer takes one if its reply waits, else two,
-    /// request and reply; each answer of a later phase takes two.
-    pub fn left(&self) -> u32 {
-        let missing = self.missing();
+    /// The cheapest sets of `able` parties whose answers end the present phase: in columns, one
+    /// for each column that they can make whole.
+    pub fn ways(&self, able: u32) -> Vec<u32> {
+        let answered = self.row.answered;
+        let from = |among: u32, count| self.cheapest(among & able & !answered, count);
+        let columns = self.numbers.column_sets();
+        match enough(self.row.phase, &self.numbers) {
+            Enough::Count(wanted) => from(u32::MAX, wanted.saturating_sub(answered.count_ones())).into_iter().collect(),
+            Enough::WholeColumn => {
+                columns.filter_map(|column| from(column, (column & !answered).count_ones())).collect()
+            }
+            Enough::EachColumn => {
+                let unmet = columns.filter(|column| column & answered == 0);
+                unmet.map(|column| from(column, 1)).sum::<Option<u32>>().into_iter().collect()
+            }
+        }
+    }
+
+    /// So many of a set, those first whose reply waits.
+    fn cheapest(&self, set: u32, count: u32) -> Option<u32> {
+        let in_turn = members(set & self.replied).chain(members(set & !self.replied));
+        let way: u32 = in_turn.take(count as usize).map(bit).sum();
+        (way.count_ones() == count).then_some(way)
+    }
+
+    /// Deliveries of a way and of the phases behind it: an answer takes one if its reply waits,
+    /// else two, request and reply.
+    pub fn deliveries(&self, way: u32) -> u32 {
         let later: u32 = (self.row.phase + 1..=self.last()).map(|phase| 2 * answers(phase, &self.numbers)).sum();
-        2 * missing - missing.min(self.replied.count_ones()) + later
+        2 * way.count_ones() - (way & self.replied).count_ones() + later
+    }
+
+    /// Deliveries still to come, by the parties that are up where they are enough.
+    pub fn left(&self) -> u32 {
+        let least = |able| self.ways(able).into_iter().map(|way| self.deliveries(way)).min();
+        least(self.up | self.replied).or(least(u32::MAX)).unwrap_or(0)
     }
 
     /// The price of the whole operation, from its start on.
     pub fn whole(&self) -> u32 {
-        let Numbers { rq, wq, f, .. } = self.numbers;
-        if self.is_read() {
-            2 * rq + 2 * wq + 2
-        } else {
-            2 * rq + 2 * wq + 2 * f + 2
-        }
+        let first = if self.is_read() { RDR } else { WDR };
+        (first..=self.last()).map(|phase| 2 * answers(phase, &self.numbers)).sum()
     }
 }
 
-/// Answers at which a phase ends.
-pub fn answers(phase: u32, n: &Numbers) -> u32 {
+pub fn enough(phase: u32, n: &Numbers) -> Enough {
     match phase {
-        RDR | WDR => n.rq,
-        RDW | WDW => n.wq,
-        WRW => n.f + 1,
-        _ => 1,
+        RDR | WDR if n.columns > 0 => Enough::WholeColumn,
+        RDW | WDW if n.columns > 0 => Enough::EachColumn,
+        RDR | WDR => Enough::Count(n.rq),
+        RDW | WDW => Enough::Count(n.wq),
+        WRW => Enough::Count(n.f + 1),
+        _ => Enough::Count(1),
+    }
+}
+
+/// The fewest answers at which a phase ends.
+pub fn answers(phase: u32, n: &Numbers) -> u32 {
+    match enough(phase, n) {
+        Enough::Count(count) => count,
+        Enough::WholeColumn => height(n),
+        Enough::EachColumn => n.columns,
     }
 }
 

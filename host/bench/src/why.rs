@@ -1,12 +1,16 @@
 //! Why an operation is open: whether the boat's troubles hold it up, or something of ours.
 
+use crate::columns::{columns, height};
 use crate::ending::{shortest, Ending, TRIES};
 use crate::names::doing;
-use crate::open::{answers, Open};
+use crate::open::{enough, Enough, Open};
 use crate::premises::{failing, Premise};
+use crate::tally::counted;
+use copy::client::Client;
 use copy::layout::CLIENTS;
 use copy::line::{parse, Call};
 use copy::{Numbers, Rehearsal, Words};
+use std::cmp::Reverse;
 use std::fmt::Write;
 
 /// What is printed, and whether some operation is ours to answer for.
@@ -152,12 +156,8 @@ impl Explained {
     fn heading(&self) -> String {
         let Open { client, row, numbers, .. } = &self.open;
         let (name, doing) = (self.name(), doing(row.phase));
-        let (heard, wanted) = (row.answered.count_ones(), answers(row.phase, numbers));
-        let since = self.since;
-        format!(
-            "client {client}: {name}, open since line {since}, phase {}, {doing}; {heard} of {wanted} answered\n",
-            row.phase
-        )
+        let (since, heard) = (self.since, heard(row, numbers));
+        format!("client {client}: {name}, open since line {since}, phase {}, {doing}; {heard}\n", row.phase)
     }
 
     fn name(&self) -> &'static str {
@@ -186,12 +186,35 @@ impl Explained {
     }
 
     fn price(&self) -> String {
-        let sum = if self.open.is_read() { "2rq + 2wq + 2" } else { "2rq + 2wq + 2f + 2" };
+        let sum = match (self.open.numbers.columns, self.open.is_read()) {
+            (0, true) => "2rq + 2wq + 2",
+            (0, false) => "2rq + 2wq + 2f + 2",
+            (_, true) => "2 * column height + 2 * columns + 2",
+            (_, false) => "2 * column height + 2 * columns + 2f + 2",
+        };
         let (name, whole, left) = (self.name(), self.open.whole(), self.open.left());
         format!(
             "by the theorem a whole {name} takes {sum} = {whole}, of which {left} {} left",
             if left == 1 { "is" } else { "are" }
         )
+    }
+}
+
+/// What has answered, of what the phase must hear; of the columns to be whole, the fullest.
+fn heard(row: &Client, n: &Numbers) -> String {
+    let answered = row.answered;
+    match enough(row.phase, n) {
+        Enough::Count(wanted) => format!("{} of {wanted} answered", answered.count_ones()),
+        Enough::WholeColumn => {
+            let in_column = |(j, column): (u32, u32)| ((answered & column).count_ones(), Reverse(j));
+            let (most, Reverse(j)) = columns(n).map(in_column).max().unwrap_or_default();
+            let column = if most == 0 { "every column".to_string() } else { format!("column {j}") };
+            format!("{most} of {} answered in {column}", height(n))
+        }
+        Enough::EachColumn => {
+            let met = columns(n).filter(|(_, column)| answered & column != 0).count();
+            format!("{met} of {} answered", counted(u64::from(n.columns), "column"))
+        }
     }
 }
 

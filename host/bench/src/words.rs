@@ -1,8 +1,9 @@
 //! A machine in words: a sentence for each row, and where the newest page lies.
 
-use crate::names::{doing, kind_name, parties, party_name, set, tag};
+use crate::columns::{column_of, columns, lacks, party_at};
+use crate::names::{doing, kind_name, listed, parties, party_name, set, tag};
 use crate::newest;
-use crate::open::{answers, entries, up, Open};
+use crate::open::{enough, entries, up, Enough, Open};
 use crate::story::ends_of;
 use crate::view;
 use copy::client::Client;
@@ -42,17 +43,18 @@ pub fn machine(m: &Words) -> Vec<Sentence> {
     all
 }
 
-/// Every party, in order.
+/// Every party, in order; directories column by column.
 pub fn rows(n: &Numbers) -> impl Iterator<Item = (Party, u32)> {
-    let group = |party, count| (1..=count).map(move |id| (party, id));
-    group(Party::Client, n.nc).chain(group(Party::Directory, n.nd)).chain(group(Party::Replica, n.nr))
+    let n = *n;
+    let group = move |party| (1..=view::count_of(party, &n)).map(move |place| (party, party_at(&n, party, place)));
+    [Party::Client, Party::Directory, Party::Replica].into_iter().flat_map(group)
 }
 
 /// What is said of one party.
 pub fn row(m: &Words, party: Party, id: u32) -> Sentence {
     let text = match party {
         Party::Client => client(m, id),
-        Party::Directory => directory(&Directory::read(m, id)),
+        Party::Directory => directory(m, id),
         Party::Replica => replica(m, id),
     };
     let down = if view::is_down(m, party, id) { "down; " } else { "" };
@@ -60,10 +62,17 @@ pub fn row(m: &Words, party: Party, id: u32) -> Sentence {
 }
 
 pub fn numbers(n: &Numbers) -> String {
-    let Numbers { nc, nd, nr, f, rq, wq, top, .. } = n;
-    let counts = [parties_of(*nc, "client", "clients"), parties_of(*nd, "directory", "directories")].join(", ");
-    let replicas = parties_of(*nr, "replica", "replicas");
-    format!("{counts}, {replicas}; f {f}, read quorum {rq}, write quorum {wq}, top {top}")
+    let Numbers { nc, nd, nr, f, rq, wq, top, columns } = n;
+    let (clients, replicas) = (parties_of(*nc, "client", "clients"), parties_of(*nr, "replica", "replicas"));
+    let directories = parties_of(*nd, "directory", "directories");
+    let (standing, quorums) = match columns {
+        0 => (String::new(), format!("read quorum {rq}, write quorum {wq}")),
+        _ => (
+            format!(" in {}", parties_of(*columns, "column", "columns")),
+            "read quorum one whole column, write quorum one of each column".to_string(),
+        ),
+    };
+    format!("{clients}, {directories}{standing}, {replicas}; f {f}, {quorums}, top {top}")
 }
 
 fn parties_of(count: u32, one: &str, many: &str) -> String {
@@ -95,20 +104,52 @@ fn at_work(row: &Client) -> String {
 }
 
 fn waits(open: &Open) -> String {
+    match enough(open.row.phase, &open.numbers) {
+        Enough::Count(wanted) => waits_for_count(open, wanted),
+        Enough::WholeColumn => answered_first(open, waits_for_column(open)),
+        Enough::EachColumn => answered_first(open, waits_for_each_column(open)),
+    }
+}
+
+fn waits_for_count(open: &Open, wanted: u32) -> String {
     let Open { row, numbers, .. } = open;
-    let party = if [RRR, WRW].contains(&row.phase) { Party::Replica } else { Party::Directory };
     let asked = match row.phase {
         RRR => row.set,
         WRW => all(numbers.nr),
         _ => all(numbers.nd),
     };
-    let (wanted, missing, silent) = (answers(row.phase, numbers), open.missing(), asked & !row.answered);
+    let (missing, silent) = (wanted.saturating_sub(row.answered.count_ones()), asked & !row.answered);
     let some = if silent.count_ones() == missing { String::new() } else { format!("{missing} of ") };
-    let waits = format!("waits for {some}{}", parties(party, silent));
+    let waits = format!("waits for {some}{}", parties(open.party(), silent));
     if row.answered == 0 {
         waits
     } else {
         format!("{} of {wanted} answered: {}; {waits}", wanted - missing, set(row.answered))
+    }
+}
+
+fn answered_first(open: &Open, waits: String) -> String {
+    match open.row.answered {
+        0 => waits,
+        answered => format!("answered: {}; {waits}", set(answered)),
+    }
+}
+
+/// Of the columns that are begun, who is still missing.
+fn waits_for_column(open: &Open) -> String {
+    let answered = open.row.answered;
+    let begun = columns(&open.numbers).filter(|(_, column)| column & answered != 0);
+    let lacking: Vec<String> = begun.map(|(j, column)| lacks(j, column & !answered)).collect();
+    let which = if lacking.is_empty() { String::new() } else { format!(": {}", lacking.join(", ")) };
+    format!("waits for one whole column{which}")
+}
+
+fn waits_for_each_column(open: &Open) -> String {
+    let unmet = columns(&open.numbers).filter(|(_, column)| column & open.row.answered == 0);
+    let names: Vec<String> = unmet.map(|(j, _)| j.to_string()).collect();
+    match names.as_slice() {
+        [only] => format!("waits for one of column {only}"),
+        _ => format!("waits for one of each of columns {}", listed(&names)),
     }
 }
 
@@ -126,8 +167,10 @@ fn knows(row: &Client) -> String {
     }
 }
 
-fn directory(row: &Directory) -> String {
-    format!("tag {} at {}", tag(row.tag), parties(Party::Replica, row.set))
+fn directory(m: &Words, id: u32) -> String {
+    let (row, n) = (Directory::read(m, id), Numbers::read(m));
+    let column = if n.columns == 0 { String::new() } else { format!("column {}; ", column_of(&n, id)) };
+    format!("{column}tag {} at {}", tag(row.tag), parties(Party::Replica, row.set))
 }
 
 fn replica(m: &Words, id: u32) -> String {

@@ -1,5 +1,8 @@
 //! `tell`: every sentence that it has, and that what it says is so.
 
+#[path = "telling/columns.rs"]
+mod columns;
+
 use bench::compare::copy_output;
 use bench::history::{lines, raw_lines, Printed};
 use bench::meaning::bad_argument;

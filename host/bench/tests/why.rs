@@ -1,5 +1,7 @@
 //! Why an operation is open: the promised number of deliveries, and every sentence printed.
 
+#[path = "why/columns.rs"]
+mod columns;
 #[path = "why/everything.rs"]
 mod everything;
 #[path = "why/idle.rs"]

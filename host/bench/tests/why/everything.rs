@@ -1,26 +1,32 @@
 //! Every list of deliveries is tried on small machines.
 
 use super::idle::{operations, started};
-use super::wander::{call, wander, SMALL};
+use super::wander::{call, wander, SMALL, SMALL_IN_COLUMNS};
 use bench::ending::{key, Ending, TRIES};
 use bench::prng::Prng;
 use bench::view;
-use bench::why::{end, explain, Explained};
+use bench::why::{end, explain, End, Explained};
 use copy::answer::{READ_ENDED, WRITE_ENDED};
-use copy::layout::{PAGE, SLOTS};
+use copy::layout::SLOTS;
 use copy::line::Call;
 use copy::rehearsal::run;
-use copy::{deliver, Words};
+use copy::Words;
 use std::collections::HashSet;
 
 /// Words that are not zero: many states of a small machine are kept at once.
-fn packed(m: &Words) -> Vec<(usize, u32)> {
-    m.iter().copied().enumerate().filter(|&(_, word)| word != 0).collect()
+struct Packed {
+    length: usize,
+    words: Vec<(usize, u32)>,
 }
 
-fn unpacked(packed: &[(usize, u32)]) -> Box<Words> {
-    let mut words: Box<Words> = Box::new([0; copy::WORDS]);
-    packed.iter().for_each(|&(at, word)| words[at] = word);
+fn packed(m: &Words) -> Packed {
+    let words = m.iter().copied().enumerate().filter(|&(_, word)| word != 0).collect();
+    Packed { length: m.len(), words }
+}
+
+fn unpacked(packed: &Packed) -> Vec<u32> {
+    let mut words = vec![0; packed.length];
+    packed.words.iter().for_each(|&(at, word)| words[at] = word);
     words
 }
 
@@ -59,7 +65,7 @@ impl Everything {
         None
     }
 
-    fn call_freely(&mut self, m: &Words, level: &mut Vec<Vec<(usize, u32)>>) {
+    fn call_freely(&mut self, m: &Words, level: &mut Vec<Packed>) {
         for &call in &self.free {
             let mut after: Box<Words> = m.into();
             let accepted = run(&mut after, call).answer.accepted();
@@ -69,10 +75,10 @@ impl Everything {
         }
     }
 
-    fn deliver_each(&mut self, m: &Words, next: &mut Vec<Vec<(usize, u32)>>) -> bool {
+    fn deliver_each(&mut self, m: &Words, next: &mut Vec<Packed>) -> bool {
         for slot in view::waiting(m) {
             let mut after: Box<Words> = m.into();
-            let answer = deliver(&mut after[..], slot, &mut [0; PAGE]);
+            let answer = run(&mut after, Call::Deliver { slot }).answer;
             if [READ_ENDED, WRITE_ENDED].contains(&answer.code) && answer.client == self.client {
                 return true;
             }
@@ -84,24 +90,39 @@ impl Everything {
     }
 }
 
-#[test]
-fn no_shorter_list() {
-    let (mut count, mut states) = (0, 0);
-    for (set_up, seed) in SMALL.iter().flat_map(|set_up| (0..60).map(move |seed| (set_up, seed))) {
-        let text = wander(&mut Prng::new(seed), set_up, 60, false);
-        let end = end(text.as_bytes());
-        if view::waiting(end.words()).len() > LITTLE_MAIL {
-            continue;
-        }
+/// States after some lines, with so much mail at most; each with its schedule.
+fn reached(set_ups: &[&str], seeds: u64, mail: usize, crashes: bool) -> Vec<(String, End)> {
+    let all = set_ups.iter().flat_map(|set_up| (0..seeds).map(move |seed| (set_up, seed)));
+    let texts = all.map(|(set_up, seed)| wander(&mut Prng::new(seed), set_up, 60, crashes));
+    let ends = texts.map(|text| (end(text.as_bytes()), text)).map(|(end, text)| (text, end));
+    ends.filter(|(_, end)| view::waiting(end.words()).len() <= mail).collect()
+}
+
+/// Operations that end at their price and not before.
+fn end_at_their_price(states: Vec<(String, End)>) -> usize {
+    let (mut count, mut states_seen) = (0, 0);
+    for (text, end) in states {
         for (client, (start, price, _)) in operations(end.words()) {
             let mut everything = Everything::of(client, &[]);
             assert_eq!(everything.first_end(&started(end.words(), start)), Some(price), "{text}{start:?}");
             count += 1;
-            states += everything.seen.len();
+            states_seen += everything.seen.len();
         }
     }
-    println!("{count} operations, {states} states visited: each ends at its price and not before");
-    assert!(count >= 100);
+    println!("{count} operations, {states_seen} states visited: each ends at its price and not before");
+    count
+}
+
+#[test]
+fn no_shorter_list() {
+    assert!(end_at_their_price(reached(&SMALL, 60, LITTLE_MAIL, false)) >= 100);
+}
+
+#[test]
+fn no_shorter_list_in_columns() {
+    for set_up in SMALL_IN_COLUMNS {
+        assert!(end_at_their_price(reached(&[set_up], 60, 1, false)) >= 4, "{set_up}");
+    }
 }
 
 /// Nor do other calls in between make it shorter: only deliveries count.
@@ -139,33 +160,39 @@ fn agrees(text: &str, one: &Explained, m: &Words) -> usize {
     everything.seen.len()
 }
 
-/// Where premises fail too, the guided search finds what there is, and no more.
-#[test]
-fn the_search_misses_nothing() {
-    let spending = ["S 3 2 1 0 2 1 3 7", "S 3 2 1 0 1 2 3 7", "S 2 3 2 0 2 2 99 7"];
-    let (mut found, mut none, mut states) = (0, 0, 0);
-    for (set_up, seed) in SMALL.iter().chain(&spending).flat_map(|set_up| (0..300).map(move |seed| (set_up, seed))) {
-        let text = wander(&mut Prng::new(seed), set_up, 60, true);
-        let end = end(text.as_bytes());
-        if view::waiting(end.words()).len() > LITTLE_MAIL {
-            continue;
-        }
+/// Lists that are shortest, and operations that have none, where premises fail too.
+fn misses_nothing(states: Vec<(String, End)>) -> (usize, usize) {
+    let (mut found, mut none, mut states_seen) = (0, 0, 0);
+    for (text, end) in states {
         for one in explain(end.words(), end.starts(), TRIES) {
-            states += agrees(&text, &one, end.words());
+            states_seen += agrees(&text, &one, end.words());
             match one.ending {
                 Ending::Found(_) => found += 1,
                 _ => none += 1,
             }
         }
     }
-    println!("{found} lists are shortest, and {none} operations have none: {states} states visited");
+    println!("{found} lists are shortest, and {none} operations have none: {states_seen} states visited");
+    (found, none)
+}
+
+#[test]
+fn the_search_misses_nothing() {
+    let spending = ["S 3 2 1 0 2 1 3 7", "S 3 2 1 0 1 2 3 7", "S 2 3 2 0 2 2 99 7"];
+    let (found, none) = misses_nothing(reached(&[&SMALL[..], &spending].concat(), 300, LITTLE_MAIL, true));
     assert!(found >= 100 && none >= 100);
 }
 
-/// Nearly all slots are full of one gossip, so there are few states for so much mail.
 #[test]
-fn the_search_misses_nothing_when_slots_are_few() {
-    let starts = ["S 1 1 2 0 1 1 99 7\nR 1\n", "S 1 1 2 0 1 1 99 7\nW 1 9\n", "S 1 2 3 1 2 1 99 7\nR 1\n"];
+fn the_search_misses_nothing_in_columns() {
+    let spending = ["C 3 2 1 0 1 3 7", "C 3 2 1 0 2 3 7", "C 3 4 1 0 2 3 7"];
+    let (found, none) = misses_nothing(reached(&[&SMALL_IN_COLUMNS[..], &spending].concat(), 30, LITTLE_MAIL, true));
+    assert!(found >= 100 && none >= 50);
+}
+
+/// Lists that are longer for want of slots. Nearly all are full of one gossip, so there are few
+/// states for so much mail.
+fn longer_for_want_of_slots(starts: &[&str]) -> usize {
     let (mut longer, mut states) = (0, 0);
     for (start, crash) in starts.iter().flat_map(|start| ["", "X 3 2\n"].map(|crash| (start, crash))) {
         for empty in 0..4 {
@@ -178,5 +205,25 @@ fn the_search_misses_nothing_when_slots_are_few() {
         }
     }
     println!("{longer} lists are longer for want of slots, and shortest: {states} states visited");
-    assert!(longer >= 5);
+    longer
+}
+
+#[test]
+fn the_search_misses_nothing_when_slots_are_few() {
+    let starts = ["S 1 1 2 0 1 1 99 7\nR 1\n", "S 1 1 2 0 1 1 99 7\nW 1 9\n", "S 1 2 3 1 2 1 99 7\nR 1\n"];
+    assert!(longer_for_want_of_slots(&starts) >= 5);
+}
+
+/// In the last two, the column with an answer lacks one, and the other has its two replies
+/// waiting: as cheap, and one slot more is emptied.
+#[test]
+fn the_search_misses_nothing_in_columns_when_slots_are_few() {
+    let starts = [
+        "C 1 2 2 0 1 99 7\nR 1\n",
+        "C 1 2 2 0 2 99 7\nR 1\n",
+        "C 1 2 2 0 2 99 7\nW 1 9\n",
+        "C 1 4 2 0 2 99 7\nR 1\nD 1\nD 1\nD 2\nD 4\n",
+        "C 1 4 2 0 2 99 7\nW 1 9\nD 1\nD 1\nD 2\nD 4\n",
+    ];
+    assert!(longer_for_want_of_slots(&starts) >= 5);
 }

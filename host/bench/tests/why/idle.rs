@@ -11,10 +11,20 @@ use copy::{Numbers, Words};
 
 /// The premises of a read, as the theorem has them of an idle client.
 pub fn may_read(m: &Words, n: &Numbers, client: u32) -> bool {
+    let directories = up(m, Party::Directory, n.nd);
     view::startable(m, n).contains(&client)
         && view::down_count(m, Party::Replica, n.nr) <= n.f
-        && up(m, Party::Directory, n.nd).count_ones() >= n.rq.max(n.wq)
-        && SLOTS - view::waiting(m).len() >= 21
+        && n.enough_to_read(directories)
+        && n.enough_to_write(directories)
+        && SLOTS - view::waiting(m).len() >= slots_asked(n)
+}
+
+/// 5 + 7 + 5 + 4, and in columns 16 + 7 + 16 + 4.
+pub fn slots_asked(n: &Numbers) -> usize {
+    match n.columns {
+        0 => 21,
+        _ => 43,
+    }
 }
 
 /// What a write asks besides.
@@ -27,11 +37,21 @@ pub fn may_write(m: &Words, n: &Numbers, client: u32) -> bool {
 
 /// Start, promised price and the code of the end.
 pub fn a_read(n: &Numbers, client: u32) -> (Call, u32, u32) {
-    (Call::Read { client }, 2 * n.rq + 2 * n.wq + 2, READ_ENDED)
+    let (rq, wq) = quorums(n);
+    (Call::Read { client }, 2 * rq + 2 * wq + 2, READ_ENDED)
 }
 
 pub fn a_write(n: &Numbers, client: u32) -> (Call, u32, u32) {
-    (Call::Write { client, word: 1 << 31 }, 2 * n.rq + 2 * n.wq + 2 * n.f + 2, WRITE_ENDED)
+    let (rq, wq) = quorums(n);
+    (Call::Write { client, word: 1 << 31 }, 2 * rq + 2 * wq + 2 * n.f + 2, WRITE_ENDED)
+}
+
+/// In columns, "rq and wq become the column height and the columns".
+fn quorums(n: &Numbers) -> (u32, u32) {
+    match n.columns {
+        0 => (n.rq, n.wq),
+        columns => (n.nd / columns, columns),
+    }
 }
 
 pub fn started(m: &Words, start: Call) -> Box<Words> {

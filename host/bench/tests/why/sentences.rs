@@ -9,7 +9,7 @@ use copy::rehearsal::run;
 use copy::Words;
 
 /// The lines, and deliveries of the lowest waiting message until none waits.
-fn drained(text: &str) -> String {
+pub fn drained(text: &str) -> String {
     let mut text = text.to_string();
     let mut words: Box<Words> = end(text.as_bytes()).words().into();
     while let Some(&slot) = view::waiting(&words).first() {
@@ -19,21 +19,21 @@ fn drained(text: &str) -> String {
     text
 }
 
-fn many(lines: &[&str]) -> String {
+pub fn many(lines: &[&str]) -> String {
     lines.iter().map(|line| format!("{line}\n")).collect()
 }
 
-fn says(input: &str, expected: &[&str]) {
+pub fn says(input: &str, expected: &[&str]) {
     let told = why(input.as_bytes());
     assert_eq!(told.text, many(expected));
     assert_eq!(told.status(), Ok(()));
 }
 
-const READ_1: &str = "client 1: read, open since line 2, phase 1, asking directories for the newest tag; 0 of";
+pub const READ_1: &str = "client 1: read, open since line 2, phase 1, asking directories for the newest tag; 0 of";
 const WHOLE_6: &str = "by the theorem a whole read takes 2rq + 2wq + 2 = 6";
 const WHOLE_10: &str = "by the theorem a whole read takes 2rq + 2wq + 2 = 10";
 const WRITE_10: &str = "by the theorem a whole write takes 2rq + 2wq + 2f + 2 = 10";
-const NONE: &str = "  the boat's fault: no deliveries can end it";
+pub const NONE: &str = "  the boat's fault: no deliveries can end it";
 
 #[test]
 fn says_that_nothing_is_open() {
@@ -215,7 +215,7 @@ fn says_that_slots_are_few() {
 }
 
 /// Three writes of three clients, so that the number is at top.
-fn spent(set_up: &str) -> String {
+pub fn spent(set_up: &str) -> String {
     (1..4).fold(format!("{set_up}\n"), |text, client| drained(&format!("{text}W {client} 9\n")))
 }
 

@@ -1,6 +1,6 @@
 //! Whose fault it is.
 
-use super::wander::wander;
+use super::wander::{standings, wander};
 use bench::compare::copy_output;
 use bench::ending::Ending;
 use bench::history::{lines, Printed};
@@ -36,6 +36,8 @@ fn name(premise: &Premise) -> &'static str {
     match premise {
         Premise::Client { .. } => "client down",
         Premise::Directories { .. } => "directories down",
+        Premise::NoWholeColumn { .. } => "no whole column",
+        Premise::Column { .. } => "column down",
         Premise::Replicas { .. } => "replicas down",
         Premise::Set { .. } => "set down",
         Premise::Room { .. } => "entries",
@@ -55,7 +57,8 @@ fn ends_behind(input: &[u8], one: &Explained) {
     assert_eq!((last.code, last.client), (code, one.open.client), "{}", one.text());
 }
 
-/// Generated schedules, half of them with some crashes at their end; and machines soon spent.
+/// Generated schedules, half of them with some crashes at their end; machines soon spent; and
+/// machines in columns.
 fn inputs() -> impl Iterator<Item = Vec<u8>> {
     let generated = (0..1000).map(|seed| {
         let mut input = schedule(seed, 60 + (seed * 37 % 400) as usize);
@@ -66,7 +69,14 @@ fn inputs() -> impl Iterator<Item = Vec<u8>> {
         input
     });
     let spent = (0..1000).map(|seed| wander(&mut Prng::new(seed), "S 8 2 1 0 2 1 3 7", 150, true).into_bytes());
-    generated.chain(spent)
+    let in_columns = standings().flat_map(|(nd, columns)| {
+        (0..40).map(move |seed| {
+            let top = if seed % 4 == 0 { 3 } else { 99 };
+            let set_up = format!("C 4 {nd} 3 1 {columns} {top} 7");
+            wander(&mut Prng::new(seed), &set_up, 200, true).into_bytes()
+        })
+    });
+    generated.chain(spent).chain(in_columns)
 }
 
 #[test]
@@ -88,5 +98,5 @@ fn no_schedule_is_ours() {
     }
     let shown: Vec<String> = counts.iter().map(|(what, count)| format!("{count} {what}")).collect();
     println!("{}", shown.join(", "));
-    assert_eq!(counts.len(), 11, "each premise and each verdict but OURS: {counts:?}");
+    assert_eq!(counts.len(), 13, "each premise and each verdict but OURS: {counts:?}");
 }
