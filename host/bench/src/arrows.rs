@@ -1,6 +1,6 @@
 //! The messages of a picture. Each is a group that names the columns of its sending and its end.
 
-use crate::draw::{colour, Picture, GOSSIP_COLOUR, RED};
+use crate::draw::{colour, Picture, GOSSIP_COLOUR, HALO, RED};
 use crate::names::kind_name;
 use crate::rows::{fitting, moment, Piece, Point};
 use crate::story::ends_of;
@@ -25,8 +25,8 @@ impl Picture<'_> {
 
     fn arrow(&mut self, arrow: &Arrow) {
         let ((from, sender), (to, receiver)) = ends_of(&arrow.message);
-        let start = (moment(arrow.sent), self.rows.height_of(from, sender));
-        let aim = (moment(arrow.until), self.rows.height_of(to, receiver));
+        let start = (moment(arrow.sent), self.height_at(arrow.sent, from, sender));
+        let aim = (moment(arrow.until), self.height_at(arrow.sent, to, receiver));
         match arrow.fate {
             Fate::Waiting => self.stub(arrow, self.rows.point(start), (aim.1 - start.1).signum()),
             Fate::Lost => self.flight(arrow, start, (aim.0, start.1 + LOST_AT * (aim.1 - start.1))),
@@ -68,8 +68,7 @@ impl Picture<'_> {
     }
 
     fn kind(&mut self, arrow: &Arrow, (x, y): Point) {
-        let halo = r##"paint-order="stroke" stroke="#fdfdfb" stroke-width="2.5""##;
-        let (text, style) = (kind_name(arrow.message.kind), format!(r#"fill="{}" {halo}"#, arrow_colour(arrow)));
+        let (text, style) = (kind_name(arrow.message.kind), format!(r#"fill="{}" {HALO}"#, arrow_colour(arrow)));
         self.svg.text((fitting(x, text, 8.5), y), 8.5, &style, text);
     }
 

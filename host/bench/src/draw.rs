@@ -1,9 +1,10 @@
 //! A space-time picture: a lane for each party, a column for each accepted call, cut into
 //! rows that fit a page; under it the line of operations and the refused lines.
 
+use crate::columns::{party_at, place_of};
 use crate::history::{Kind, Operation};
 use crate::names::party_name;
-use crate::rows::{fitting, moment, Rows, PER_ROW, WIDTH};
+use crate::rows::{fitting, moment, Point, Rows, PER_ROW, WIDTH};
 use crate::story::{story, Mark, Story};
 use crate::svg::Svg;
 use crate::underway::Fate;
@@ -21,6 +22,8 @@ pub const WRITE_FILL: &str = r##"fill="#cfe0f7" stroke="#3a6cb0""##;
 pub const READ_FILL: &str = r##"fill="#d3efd2" stroke="#3b8a3f""##;
 const OPEN_ENDED: &str = r#"stroke-dasharray="4 3" fill-opacity="0.5""#;
 pub const PLAIN_TEXT: &str = r##"fill="#222""##;
+/// Around a text that stands among strokes.
+pub const HALO: &str = r##"paint-order="stroke" stroke="#fdfdfb" stroke-width="2.5""##;
 pub const RED: &str = r##"stroke="#c62828" stroke-width="2.5""##;
 pub const GOSSIP_COLOUR: &str = "#9a5bb5";
 
@@ -114,25 +117,39 @@ impl<'a> Picture<'a> {
     fn lanes(&mut self) {
         let Rows { clients: nc, directories: nd, replicas: nr, .. } = self.rows;
         let all = Numbers { nc, nd, nr, f: 0, rq: 0, wq: 0, top: 0, columns: 0 };
-        for (party, id) in words::rows(&all) {
-            self.lane(party, id);
+        for (party, place) in words::rows(&all) {
+            self.lane(party, place);
         }
+        self.brackets();
     }
 
-    fn lane(&mut self, party: Party, id: u32) {
+    fn lane(&mut self, party: Party, place: u32) {
         let story = self.story;
+        let height = self.rows.height_of(party, place);
         let mut named = None;
-        for machine in story.machines.iter().filter(|one| id <= view::count_of(party, &one.numbers)) {
-            let height = self.rows.height_of(party, id);
+        for machine in story.machines.iter().filter(|one| place <= view::count_of(party, &one.numbers)) {
+            let id = party_at(&machine.numbers, party, place);
             let end = story.end_of(machine.column) as f64;
             for piece in self.rows.pieces((moment(machine.column), height), (end, height)) {
-                if named.replace(piece.row) != Some(piece.row) {
-                    let name = format!("{} {id}", party_name(party));
-                    self.svg.text((10.0, piece.from.1 + 4.0), 12.0, PLAIN_TEXT, &name);
+                let name = format!("{} {id}", party_name(party));
+                match named.replace((piece.row, id)) {
+                    Some((row, other)) if row == piece.row && other == id => (),
+                    Some((row, _)) if row == piece.row => self.name_again(piece.from, &name),
+                    _ => self.svg.text((10.0, piece.from.1 + 4.0), 12.0, PLAIN_TEXT, &name),
                 }
                 self.svg.line(piece.from, piece.to, r##"stroke="#b9b7ae""##);
             }
         }
+    }
+
+    /// Inside a row, where a machine with other columns begins: its lanes are in another order.
+    fn name_again(&mut self, (x, y): Point, name: &str) {
+        self.svg.text((fitting(x + 10.0, name, 8.5), y - 4.0), 8.5, &format!("{PLAIN_TEXT} {HALO}"), name);
+    }
+
+    /// The height of a party's lane in the machine at a column.
+    pub fn height_at(&self, column: usize, party: Party, id: u32) -> f64 {
+        self.rows.height_of(party, place_of(self.story.numbers_at(column), party, id))
     }
 
     fn bars(&mut self) {
@@ -176,7 +193,7 @@ impl<'a> Picture<'a> {
 
     /// Moment and height of a mark.
     fn spot(&self, mark: &Mark) -> (f64, f64) {
-        (moment(mark.column), self.rows.height_of(mark.party, mark.id))
+        (moment(mark.column), self.height_at(mark.column, mark.party, mark.id))
     }
 }
 

@@ -37,6 +37,7 @@ pub mod words;
 // Pictures and pages.
 pub mod arrows;
 pub mod below;
+pub mod brackets;
 pub mod draw;
 pub mod json;
 pub mod page;

@@ -68,11 +68,15 @@ fn data(input: &[u8], story: &Story) -> String {
 /// What makes the sentences before a line those after it: first the subjects that are gone,
 /// then, by place, those that are new or say something else.
 pub fn changes(before: &[Sentence], after: &[Sentence]) -> Vec<Change> {
-    let old = by_subject(before);
+    let kept = if keeps_order(before, after) { by_subject(before) } else { HashMap::new() };
     let new = by_subject(after);
-    let gone = before.iter().filter(|sentence| !new.contains_key(sentence.subject.as_str()));
+    let stays = |sentence: &Sentence| {
+        let subject = sentence.subject.as_str();
+        new.contains_key(subject) && kept.contains_key(subject)
+    };
+    let gone = before.iter().filter(|sentence| !stays(sentence));
     let gone = gone.map(|sentence| Change { subject: sentence.subject.clone(), text: None, place: 0 });
-    let differs = |sentence: &Sentence| old.get(sentence.subject.as_str()) != Some(&sentence.text.as_str());
+    let differs = |sentence: &Sentence| kept.get(sentence.subject.as_str()) != Some(&sentence.text.as_str());
     let said = after.iter().enumerate().filter(|(_, sentence)| differs(sentence));
     let said = said.map(|(place, Sentence { subject, text })| Change {
         subject: subject.clone(),
@@ -80,6 +84,15 @@ pub fn changes(before: &[Sentence], after: &[Sentence]) -> Vec<Change> {
         place,
     });
     gone.chain(said).collect()
+}
+
+/// Not so where a new machine has other columns: then all is said anew.
+fn keeps_order(before: &[Sentence], after: &[Sentence]) -> bool {
+    let (old, new) = (by_subject(before), by_subject(after));
+    let stays = |sentence: &&Sentence| {
+        old.contains_key(sentence.subject.as_str()) && new.contains_key(sentence.subject.as_str())
+    };
+    before.iter().filter(stays).map(|one| &one.subject).eq(after.iter().filter(stays).map(|one| &one.subject))
 }
 
 fn by_subject(sentences: &[Sentence]) -> HashMap<&str, &str> {

@@ -59,11 +59,12 @@ impl Rows {
         f64::from(self.clients + self.directories + self.replicas) * LANE + 2.0 * GROUP_GAP
     }
 
-    pub fn height_of(&self, party: Party, id: u32) -> f64 {
+    /// The height of the lane at a place among those of its sort, counted from 1.
+    pub fn height_of(&self, party: Party, place: u32) -> f64 {
         let (lane, group) = match party {
-            Party::Client => (id - 1, 0.0),
-            Party::Directory => (self.clients + id - 1, 1.0),
-            Party::Replica => (self.clients + self.directories + id - 1, 2.0),
+            Party::Client => (place - 1, 0.0),
+            Party::Directory => (self.clients + place - 1, 1.0),
+            Party::Replica => (self.clients + self.directories + place - 1, 2.0),
         };
         (f64::from(lane) + 0.5) * LANE + group * GROUP_GAP
     }

@@ -63,8 +63,16 @@ impl Story {
 
     /// The column behind the last one of the machine at `column`.
     pub fn end_of(&self, column: usize) -> usize {
-        let next = self.machines.partition_point(|machine| machine.column <= column);
-        self.machines.get(next).map_or(self.calls.len(), |machine| machine.column)
+        self.machines.get(self.machine_after(column)).map_or(self.calls.len(), |machine| machine.column)
+    }
+
+    /// The numbers of the machine at `column`.
+    pub fn numbers_at(&self, column: usize) -> &Numbers {
+        &self.machines[self.machine_after(column) - 1].numbers
+    }
+
+    fn machine_after(&self, column: usize) -> usize {
+        self.machines.partition_point(|machine| machine.column <= column)
     }
 
     fn take(&mut self, machine: &mut Rehearsal, number: usize, raw: &[u8]) {

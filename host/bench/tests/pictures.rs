@@ -2,6 +2,8 @@
 
 #[path = "pictures/arrows.rs"]
 mod arrows;
+#[path = "pictures/columns.rs"]
+mod columns;
 #[path = "pictures/command.rs"]
 mod command;
 #[path = "pictures/matter.rs"]
