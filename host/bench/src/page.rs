@@ -86,7 +86,8 @@ pub fn changes(before: &[Sentence], after: &[Sentence]) -> Vec<Change> {
     gone.chain(said).collect()
 }
 
-/// Not so where a new machine has other columns: then all is said anew.
+/// Whether the subjects that stay keep their order. They do not where a new machine has other
+/// columns: then all is said anew.
 fn keeps_order(before: &[Sentence], after: &[Sentence]) -> bool {
     let (old, new) = (by_subject(before), by_subject(after));
     let stays = |sentence: &&Sentence| {

@@ -94,7 +94,10 @@ impl Everything {
 fn reached(set_ups: &[&str], seeds: u64, mail: usize, crashes: bool) -> Vec<(String, End)> {
     let all = set_ups.iter().flat_map(|set_up| (0..seeds).map(move |seed| (set_up, seed)));
     let texts = all.map(|(set_up, seed)| wander(&mut Prng::new(seed), set_up, 60, crashes));
-    let ends = texts.map(|text| (end(text.as_bytes()), text)).map(|(end, text)| (text, end));
+    let ends = texts.map(|text| {
+        let end = end(text.as_bytes());
+        (text, end)
+    });
     ends.filter(|(_, end)| view::waiting(end.words()).len() <= mail).collect()
 }
 
@@ -133,6 +136,8 @@ fn no_shorter_list_with_other_calls() {
         ("S 2 1 2 0 1 1 99 7", ["R 2", "W 2 8", "G 1 2", "T 2", "X 1 2", "X 3 1"]),
         ("S 2 2 1 0 1 2 99 7", ["R 2", "W 2 8", "T 1", "X 1 2", "X 2 2", "X 3 1"]),
         ("S 2 2 1 0 2 1 99 7", ["R 2", "W 2 8", "T 1", "X 1 2", "X 2 2", "X 3 1"]),
+        ("C 2 2 1 0 1 99 7", ["R 2", "W 2 8", "T 1", "X 1 2", "X 2 2", "X 3 1"]),
+        ("C 2 2 1 0 2 99 7", ["R 2", "W 2 8", "T 1", "X 1 2", "X 2 2", "X 3 1"]),
     ];
     let (mut count, mut states) = (0, 0);
     for (set_up, free) in tried {
