@@ -9,7 +9,7 @@ use copy::rehearsal::run;
 use copy::Words;
 
 /// The lines, and deliveries of the lowest waiting message until none waits.
-pub fn drained(text: &str) -> String {
+fn drained(text: &str) -> String {
     let mut text = text.to_string();
     let mut words: Box<Words> = end(text.as_bytes()).words().into();
     while let Some(&slot) = view::waiting(&words).first() {
@@ -19,7 +19,7 @@ pub fn drained(text: &str) -> String {
     text
 }
 
-pub fn many(lines: &[&str]) -> String {
+fn many(lines: &[&str]) -> String {
     lines.iter().map(|line| format!("{line}\n")).collect()
 }
 
@@ -29,7 +29,7 @@ pub fn says(input: &str, expected: &[&str]) {
     assert_eq!(told.status(), Ok(()));
 }
 
-pub const READ_1: &str = "client 1: read, open since line 2, phase 1, asking directories for the newest tag; 0 of";
+const READ_1: &str = "client 1: read, open since line 2, phase 1, asking directories for the newest tag; 0 of";
 const WHOLE_6: &str = "by the theorem a whole read takes 2rq + 2wq + 2 = 6";
 const WHOLE_10: &str = "by the theorem a whole read takes 2rq + 2wq + 2 = 10";
 const WRITE_10: &str = "by the theorem a whole write takes 2rq + 2wq + 2f + 2 = 10";
