@@ -5,7 +5,7 @@ mod tags; // tags.rt: examples 1 and 2
 mod directories; // directories.rt: examples 3 to 7
 mod replicas; // replicas.rt: examples 8 to 11, FULL
 mod clients; // clients.rt: example 12
-mod ranges; // ranges.rt: the seven numbers
+mod ranges; // ranges.rt: the numbers
 
 fn main() {
     tags::run();

@@ -23,7 +23,7 @@ use Rattle.inspect.proofs.Machines.{message-good, good-machine}
 use Rattle.machine.specs.Inner.{Ready, Arrived}
 use Rattle.machine.proofs.Parties.{numbers-of, many-few}
 
--- the seven numbers of a buffer
+-- the numbers of a buffer
 pub conf-of : (lay : Layout) (m : List ℕ) → confOf m ≡ machineOf lay m .conf
 unfolding machineOf
 conf-of lay m = refl

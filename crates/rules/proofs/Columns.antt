@@ -20,8 +20,8 @@ use Rattle.rules.specs.Quorums.{column, hasColumn, meetsColumns}
 use Rattle.rules.specs.Inner.{stands, met}
 
 -- some directory of each column passes the test
-abbrev pub EachColumn : (n c : ℕ) → (ℕ → Bool) → Bool
-EachColumn n c t = every? (λ j. some? t (column n c j)) (numbers 0 c)
+abbrev pub eachColumn : (n c : ℕ) → (ℕ → Bool) → Bool
+eachColumn n c t = every? (λ j. some? t (column n c j)) (numbers 0 c)
 
 module _ (n c j : ℕ) where
   pub column-in : {d : ℕ} → List·Memᴰ d (column n c j) → (1 ≤ d) × (d ≤ n) × ((d - 1) % c ≡ j)
@@ -73,8 +73,8 @@ module _ (c : ℕ) (some : 1 ≤ c) (t : ℕ → Bool) where
           if-ind (λ (s : ℕ). p ∈ s → (p ∈ known) ⊎ Found p (d ∷ ds)) (t d)
           (λ y k. ⊎-elim (λ (o : p ∈ known). inl o) (λ (q : p ≡ (d - 1) % c + 1). inr (d, List·Memᴰ·head refl, y, q)) (with-in known ((d - 1) % c + 1) p k)) (λ _ k. inl k)
 
-  pub met-all : (n : ℕ) → eqb (met c t 0 (numbers 1 n)) (all c) ≡ EachColumn n c t
-  met-all n = T-ext (eqb (met c t 0 (numbers 1 n)) (all c)) (EachColumn n c t) whole back
+  pub met-all : (n : ℕ) → eqb (met c t 0 (numbers 1 n)) (all c) ≡ eachColumn n c t
+  met-all n = T-ext (eqb (met c t 0 (numbers 1 n)) (all c)) (eachColumn n c t) whole back
     where
       there : met c t 0 (numbers 1 n) ≡ all c → (j : ℕ) → List·Memᴰ j (numbers 0 c) → T (some? t (column n c j))
       there e j m =
@@ -85,10 +85,10 @@ module _ (c : ℕ) (some : 1 ≤ c) (t : ℕ → Bool) where
           in-some t (column n c j) (in-column n c j {d = r .0} (i .0) (omega (arith, i .1)) (omega (arith, r .3))) (r .2))
           (met-in 0 (numbers 1 n) (j + 1) (rw e k))
 
-      whole : T (eqb (met c t 0 (numbers 1 n)) (all c)) → T (EachColumn n c t)
+      whole : T (eqb (met c t 0 (numbers 1 n)) (all c)) → T (eachColumn n c t)
       whole h = in-every (λ j. some? t (column n c j)) (numbers 0 c) (there (eqb→eq (met c t 0 (numbers 1 n)) (all c) h))
 
-      back : T (EachColumn n c t) → T (eqb (met c t 0 (numbers 1 n)) (all c))
+      back : T (eachColumn n c t) → T (eqb (met c t 0 (numbers 1 n)) (all c))
       back h = rw (set-ext c (met c t 0 (numbers 1 n)) (all c) low (all-lt c) (λ p k. in-all c p (up p k .0) (up p k .1)) down) (eqb-refl (all c))
         where
           low : met c t 0 (numbers 1 n) < 2 ^ c

@@ -1,13 +1,13 @@
 -- When an answered set of directories is enough: more are enough too, none is not, all are, and a read quorum meets a write quorum.
-use mathlib.Core.Path.{_≡_}
+use mathlib.Core.Path.{_≡_, refl}
 use mathlib.Core.Bool.{Bool, true, false}
-use mathlib.Core.List.{List·Memᴰ}
+use mathlib.Core.List.{[], _∷_, List·Memᴰ}
 use Prim.Native.Nat.{ℕ, _+_, _-_, _^_, _≤_, _<_}
 use native.Mathlib.Nat.{mod-eq-of-lt}
 use native.Mathlib.Omega.{arith}
 use lib.Dec.{T, leb, eqb, leb→le, le→leb}
 use Rattle.sets.specs.Plain.{if_then_else_, numbers}
-use Rattle.sets.specs.Sets.{has, size, all}
+use Rattle.sets.specs.Sets.{has, size, all, members}
 use Rattle.sets.specs.Inner.{_∈_}
 use Rattle.sets.proofs.Laws.{none-in, in-all, size-none, size-all, within, meet}
 use Rattle.sets.proofs.Members.{numbers-in}
@@ -65,6 +65,16 @@ module _ (n c : ℕ) where
     all-meet =
         in-every (λ j. some? (has (all n)) (column n c j)) (numbers 0 c)
         (λ j m. let f = first-in m in let i = column-in n c j f in in-some (has (all n)) (column n c j) f (in-all n (j + 1) (i .0) (i .1)))
+
+-- twelve directories in three columns: {1, 4, 7, 10} is a whole column, and {1, 5, 12} one of each; neither is both
+pub twelve-in-three : (hasColumn 12 3 585 ≡ true) × (meetsColumns 12 3 585 ≡ false) × (meetsColumns 12 3 2065 ≡ true) × (hasColumn 12 3 2065 ≡ false)
+unfolding hasColumn meetsColumns
+twelve-in-three = (refl, refl, refl, refl)
+
+-- two sets that meet every column need share no directory: {1, 2} and {3, 4} of four in two columns
+pub rows-apart : (meetsColumns 4 2 3 ≡ true) × (meetsColumns 4 2 12 ≡ true) × (members 4 3 ≡ 1 ∷ 2 ∷ []) × (members 4 12 ≡ 3 ∷ 4 ∷ [])
+unfolding meetsColumns
+rows-apart = (refl, refl, refl, refl)
 
 -- ---- counts or columns
 

@@ -122,20 +122,20 @@ fn with_replicas(n: Numbers, nr: u32) -> Numbers {
 }
 
 fn jammed(rng: &mut Prng, layout: Layout) -> Numbers {
-    plain(layout, rng.between(2, 3), 2, 1000)
+    small_quorums(layout, rng.between(2, 3), 2, 1000)
 }
 
 fn spending(rng: &mut Prng, layout: Layout) -> Numbers {
     let nr = rng.between(1, 2);
-    plain(layout, fewest_directories(layout), nr, rng.between(3, 6))
+    small_quorums(layout, fewest_directories(layout), nr, rng.between(3, 6))
 }
 
 fn hoarding(rng: &mut Prng, layout: Layout) -> Numbers {
-    plain(layout, fewest_directories(layout), rng.between(1, 3), 1000)
+    small_quorums(layout, fewest_directories(layout), rng.between(1, 3), 1000)
 }
 
 /// Eight clients, any one replica, and any one directory to read; all directories to write.
-fn plain(layout: Layout, nd: u32, nr: u32, top: u32) -> Numbers {
+fn small_quorums(layout: Layout, nd: u32, nr: u32, top: u32) -> Numbers {
     let n = Numbers { nc: 8, nd, nr, f: 0, rq: 0, wq: 0, top, columns: 0 };
     match layout {
         Layout::Base => Numbers { rq: 1, wq: nd, ..n },
