@@ -52,7 +52,7 @@ fn outcome(o: Outcome) {
             show::text(b"number ");
             show::number(t.number)
         }
-        Outcome::ReadEnded(_) => show::text(b"READ ENDED"),
+        Outcome::ReadEnded(_, _) => show::text(b"READ ENDED"),
         Outcome::WriteEnded(_) => show::text(b"WRITE ENDED"),
         Outcome::Spent => show::text(b"SPENT"),
         Outcome::Stale => show::text(b"STALE"),

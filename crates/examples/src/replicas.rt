@@ -1,4 +1,4 @@
-// Examples 8 to 11, read and tidy, and FULL, on the 240 words of a replica's entries.
+// Examples 8 to 11, read with its mark and tidy, and FULL, on the 240 words of a replica's entries.
 ghost use Prim.Native.Nat.{_≤_};
 ghost use lib.ListN.{length};
 use crate::show;
@@ -34,8 +34,11 @@ fn read(n: u32, l: &[u32], t: Tag)
     show::text(b": read ");
     show::tag(t);
     show::text(b": ");
-    let e = replica::read_in(l, t);
+    let found = replica::read_in(l, t);
+    let e = found.entry;
     show::tag(e.tag);
+    show::text(b", mark ");
+    show::number(found.mark);
     show::text(b"\n");
 }
 

@@ -24,7 +24,7 @@ use Rattle.machine.specs.Steps.{Result, effectOf, step, codeOf}
 use Rattle.machine.specs.Buffers.{wrongPage}
 use Rattle.runs.proofs.Ways.{allows}
 use Rattle.history.proofs.Walk.{Good}
-use Rattle.fewest.proofs.Held.{step-good}
+use Rattle.history.proofs.Reached.{step-good}
 use Rattle.fewest.proofs.Waiting.{Somewhere, at, found, placed-count, placed-keeps, freed-keeps, placed-has}
 
 -- n deliveries, of which the last answers with the code for client c

@@ -24,10 +24,11 @@ use Rattle.machine.specs.Buffers.{wrongPage, call}
 use Rattle.runs.specs.Runs.{Renews, bufferAfter}
 use Rattle.runs.proofs.Acts.{among}
 use Rattle.history.proofs.Walk.{Good}
+use Rattle.history.proofs.Reached.{Held, held-good, held-reached}
 use Rattle.fewest.specs.Fewest.{deliveries, noSetUp, readPrice, writePrice, Answers, delivering, Takes, askedToRead, askedToWrite, allOf}
 use Rattle.fewest.proofs.Ready.{Ready, ready, ready-to-write}
 use Rattle.fewest.proofs.Spent.{priceOf}
-use Rattle.fewest.proofs.Held.{Held, held-good, held-few, answer-is, held-step, held-reached}
+use Rattle.fewest.proofs.Held.{answer-is, held-step, held-few}
 use Rattle.fewest.proofs.Least.{no-fewer}
 use Rattle.fewest.proofs.Delivery.{Ends, last, more, paged}
 use Rattle.fewest.proofs.Start.{read-begins, read-ends, write-begins, write-ends}

@@ -25,9 +25,10 @@ use Rattle.runs.proofs.Acts.{Among}
 use Rattle.history.proofs.Shape.{client-in}
 use Rattle.history.proofs.Kept.{acts-later}
 use Rattle.history.proofs.Walk.{Good}
+use Rattle.history.proofs.Reached.{Held, held, held-call, held-answer}
 use Rattle.fewest.specs.Fewest.{isDeliver, deliveries, noSetUp, Answers}
 use Rattle.fewest.proofs.Spent.{Cost, priceOf, costOf, spends, ends}
-use Rattle.fewest.proofs.Held.{call-acts, Held, held, held-answer, held-call, held-few}
+use Rattle.fewest.proofs.Held.{call-acts, held-few}
 
 -- ---- one call
 

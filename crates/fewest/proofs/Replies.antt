@@ -65,7 +65,7 @@ unfolding clientPost secures
 client-asks k own w y Stale = unsent NoReply
 client-asks k own w y Waiting = unsent NoReply
 client-asks k own w y (Next t) = λ p m. request-asks k own y
-client-asks k own w y (ReadEnded t) = unsent NoReply
+client-asks k own w y (ReadEnded t n) = unsent NoReply
 client-asks k own w y (WriteEnded t) = λ p m h. h
 client-asks k own w y Spent = unsent NoReply
 

@@ -25,7 +25,7 @@ use Rattle.mail.specs.Slots.{emptySlots}
 use Rattle.mail.proofs.Messages.{length-messages}
 use Rattle.rules.specs.Answers.{coded}
 use Rattle.rules.specs.Directory.{directoryAfter, directoryPost}
-use Rattle.rules.specs.Replica.{read, isFull, replicaAfter, replicaPost}
+use Rattle.rules.specs.Replica.{read, mark, isFull, replicaAfter, replicaPost}
 use Rattle.rules.specs.Client.{awaited}
 use Rattle.rules.proofs.DirectoryViews.{DirectoryView, joins, takes, adds, stays, directory-view}
 use Rattle.machine.specs.Effects.{Change, directory, replica, Effect, changed}
@@ -200,7 +200,7 @@ serves M s c q n top rdw (mail t z v g) a =
     by-directory M s 2 c q n top t z v g (message 6 q first 0 n noPage) (mail _ _ _ _) refl refl refl refl (a .up) (λ e. absurd (omega arith))
 serves M s c q n top rrr (mail t z v g) a =
     let e = read t (replicaAt M q .entries) in
-    by-replica M s 3 c q n top t z v g (message 12 q (e .tag) 0 n (e .page)) (mail _ _ _ _) refl refl refl refl (a .up) (λ e. omega arith)
+    by-replica M s 3 c q n top t z v g (message 12 q (e .tag) (mark t (replicaAt M q .entries)) n (e .page)) (mail _ _ _ _) refl refl refl refl (a .up) (λ e. omega arith)
 serves M s c q n top wdr (mail t z v g) a =
     by-directory M s 4 c q n top t z v g (message 7 q (directoryAt M q .tag) 0 n noPage) (mail _ _ _ _) refl refl refl refl (a .up) (a .below)
 serves M s c q n top wrw (mail t z v g) a =

@@ -25,10 +25,10 @@ use Rattle.runs.proofs.Acts.{Among, begun}
 use Rattle.runs.proofs.Rows.{numbers-of}
 use Rattle.history.proofs.Shape.{client-set}
 use Rattle.history.proofs.Walk.{Good}
+use Rattle.history.proofs.Reached.{step-good}
 use Rattle.fewest.specs.Fewest.{readPrice, writePrice}
 use Rattle.fewest.proofs.Quorums.{mostDirectories}
 use Rattle.fewest.proofs.Ready.{Ready, ReadyToWrite}
-use Rattle.fewest.proofs.Held.{step-good}
 use Rattle.fewest.proofs.Waiting.{placed-count}
 use Rattle.fewest.proofs.Delivery.{Ends, posted}
 use Rattle.fewest.proofs.Serve.{Phase, rdr, wdr}

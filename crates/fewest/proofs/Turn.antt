@@ -104,7 +104,7 @@ reply-effect M s h (mail t set spare page) d = rw (reply-kind h .whose, d)
 
 -- what enough replies lead to in phase p
 abbrev pub turnIn : ℕ → Conf → ℕ → Client → Message → Outcome
-turnIn p k c v x = if eqb p 3 then ReadEnded (x .tag) else if eqb p 4 then chosen (k .top) c (v .tag) else if eqb p 6 then WriteEnded (v .tag) else Next (v .tag)
+turnIn p k c v x = if eqb p 3 then ReadEnded (x .tag) (x .set) else if eqb p 4 then chosen (k .top) c (v .tag) else if eqb p 6 then WriteEnded (v .tag) else Next (v .tag)
 
 outcome-is : (k : Conf) (c : ℕ) (w : Client) {p q : ℕ} {x : Message} → Mail (awaited p) q c (w .number) x → w .phase ≡ p → has (w .answered) q ≡ false
     → (b : Bool) → enoughFor k p (with (w .answered) q) ≡ b → outcome k c w x ≡ (if b then turnIn p k c (heard w x) x else Waiting)

@@ -1,4 +1,4 @@
--- The paper's rehearsal as the events of its run: the theorem speaks of something.
+-- The paper's rehearsal as the events of its run, and a read that gets a newer page: the theorems speak of something.
 use mathlib.Core.Path.{_≡_, refl, ap, _∙_}
 use mathlib.Core.List.{List, [], _∷_}
 use Prim.Native.Nat.{ℕ}
@@ -21,9 +21,9 @@ use Rattle.rules.specs.Answers.{answer, coded}
 use Rattle.mail.specs.Posts.{messagesOf}
 use Rattle.rules.specs.Quorums.{hasColumn, meetsColumns, enoughToRead, enoughToWrite}
 use Rattle.rules.specs.Directory.{directoryAfter, directoryPost}
-use Rattle.rules.specs.Replica.{entryWith, higherOf, highest, secure, write, read, replicaAfter, replicaPost, isFull}
+use Rattle.rules.specs.Replica.{entryWith, higherOf, highest, secure, write, read, mark, tidied, replicaAfter, replicaPost, isFull}
 use Rattle.rules.specs.Client.{awaited, enoughFor, isStale, heard, chosen, turned, outcome, clientAfter, request, secures, clientPost}
-use Rattle.machine.specs.Calls.{Call, setUp, startRead, startWrite, deliver, startEffect}
+use Rattle.machine.specs.Calls.{Call, setUp, startRead, startWrite, deliver, tidy, startEffect, tidyEffect}
 use Rattle.machine.specs.Deliver.{clientEffect, directoryEffect, replicaEffect, deliverEffect}
 use Rattle.machine.specs.Refusals.{refusal}
 use Rattle.machine.specs.Steps.{effectOf, step}
@@ -41,6 +41,9 @@ small = record { clients = 1; directories = 1; replicas = 1; f = 0; rq = 1; wq =
 abbrev paired : Conf
 paired = record { clients = 1; directories = 2; replicas = 1; f = 0; rq = 0; wq = 0; top = 6; columns = 2 }
 
+abbrev two : Conf
+two = record { clients = 2; directories = 1; replicas = 1; f = 0; rq = 1; wq = 1; top = 6; columns = 0 }
+
 abbrev at : ℕ → Call
 at s = deliver s (page 0)
 
@@ -53,6 +56,11 @@ rehearsal-paired : List Call
 rehearsal-paired =
     startWrite 1 (page 9) ∷ at 1 ∷ at 1 ∷ at 1 ∷ at 1 ∷ at 1 ∷ at 1 ∷ at 3 ∷ at 1
     ∷ startRead 1 ∷ at 3 ∷ at 3 ∷ at 3 ∷ at 3 ∷ at 5 ∷ at 3 ∷ at 3 ∷ at 3 ∷ startRead 1 ∷ []
+
+-- client 2 asks for (0,0); client 1 writes, and the replica tidies (0,0) away before the read comes to it
+overtaken : List Call
+overtaken =
+    startRead 2 ∷ at 1 ∷ at 1 ∷ at 1 ∷ at 1 ∷ startWrite 1 (page 9) ∷ at 2 ∷ at 2 ∷ at 2 ∷ at 2 ∷ at 2 ∷ at 2 ∷ at 2 ∷ tidy 1 ∷ at 1 ∷ at 1 ∷ []
 
 -- what each call answers, and what the page to fill holds afterwards
 answers : Layout → List ℕ → List Call → List (Answer × Page)
@@ -80,18 +88,25 @@ start lay k = call lay (setUp k (page 7)) (replicate (extent lay) 0) .buffer
 
 abbrev answered : List (Answer × Page)
 answered =
-    begins ∷ quiet ∷ quiet ∷ quiet ∷ quiet ∷ quiet ∷ (answer 2 1 (tag 1 1), page 0)
-    ∷ begins ∷ quiet ∷ quiet ∷ quiet ∷ quiet ∷ quiet ∷ (answer 1 1 (tag 1 1), page 9) ∷ (coded 21, []) ∷ []
+    begins ∷ quiet ∷ quiet ∷ quiet ∷ quiet ∷ quiet ∷ (answer 2 1 (tag 1 1) 0, page 0)
+    ∷ begins ∷ quiet ∷ quiet ∷ quiet ∷ quiet ∷ quiet ∷ (answer 1 1 (tag 1 1) 1, page 9) ∷ (coded 21, []) ∷ []
 
 abbrev answered-paired : List (Answer × Page)
 answered-paired =
-    begins ∷ quiet ∷ quiet ∷ quiet ∷ quiet ∷ quiet ∷ quiet ∷ quiet ∷ (answer 2 1 (tag 1 1), page 0)
-    ∷ begins ∷ quiet ∷ quiet ∷ quiet ∷ quiet ∷ quiet ∷ quiet ∷ quiet ∷ (answer 1 1 (tag 1 1), page 9) ∷ (coded 21, []) ∷ []
+    begins ∷ quiet ∷ quiet ∷ quiet ∷ quiet ∷ quiet ∷ quiet ∷ quiet ∷ (answer 2 1 (tag 1 1) 0, page 0)
+    ∷ begins ∷ quiet ∷ quiet ∷ quiet ∷ quiet ∷ quiet ∷ quiet ∷ quiet ∷ (answer 1 1 (tag 1 1) 1, page 9) ∷ (coded 21, []) ∷ []
+
+-- so the read gets (1,1), marked 0
+abbrev answered-newer : List (Answer × Page)
+answered-newer =
+    begins ∷ quiet ∷ quiet ∷ quiet ∷ quiet ∷ begins ∷ quiet ∷ quiet ∷ quiet ∷ quiet ∷ quiet ∷ (answer 2 1 (tag 1 1) 0, page 0)
+    ∷ quiet ∷ (coded 0, []) ∷ quiet ∷ (answer 1 2 (tag 1 1) 0, page 9) ∷ []
 
 -- in either layout
 answers-are : (answers base (start base small) rehearsal ≡ answered) × (answers wide (start wide paired) rehearsal-paired ≡ answered-paired)
-unfolding answers call good goodMachine clientRow directoryRow replicaRow slotRow goodClient goodDirectory goodEntry goodReplica goodMessage tagsOnce zeros rowsWords rowsOf clientsOf directoriesOf slotsOf joined confWords clientWords directoryWords downWords entryWords replicaWords messageWords confOf clientOf directoryOf entryOf messageOf entriesOf replicasOf blocks words machineOf rehearsal rehearsal-paired ones onesIn against senderOf receiverOf noPage noClient noDirectory noEntry noReplica noMessage goodNumbers messagesOf hasColumn meetsColumns enoughToRead enoughToWrite directoryAfter directoryPost entryWith higherOf highest secure write read replicaAfter replicaPost isFull awaited enoughFor isStale heard chosen turned outcome clientAfter request secures clientPost startEffect clientEffect directoryEffect replicaEffect deliverEffect refusal newMachine effectOf step
-answers-are = (refl, refl)
+    × (answers base (start base two) overtaken ≡ answered-newer)
+unfolding answers call good goodMachine clientRow directoryRow replicaRow slotRow goodClient goodDirectory goodEntry goodReplica goodMessage tagsOnce zeros rowsWords rowsOf clientsOf directoriesOf slotsOf joined confWords clientWords directoryWords downWords entryWords replicaWords messageWords confOf clientOf directoryOf entryOf messageOf entriesOf replicasOf blocks words machineOf rehearsal rehearsal-paired overtaken ones onesIn against senderOf receiverOf noPage noClient noDirectory noEntry noReplica noMessage goodNumbers messagesOf hasColumn meetsColumns enoughToRead enoughToWrite directoryAfter directoryPost entryWith higherOf highest secure write read mark tidied replicaAfter replicaPost isFull awaited enoughFor isStale heard chosen turned outcome clientAfter request secures clientPost startEffect tidyEffect clientEffect directoryEffect replicaEffect deliverEffect refusal newMachine effectOf step
+answers-are = (refl, refl, refl)
 
 rehearsed : events (onBuffer base) (start base small) rehearsal
     ≡ write-begins 1 (page 9) ∷ nothing ∷ nothing ∷ nothing ∷ nothing ∷ nothing ∷ write-ends 1

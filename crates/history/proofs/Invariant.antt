@@ -13,7 +13,7 @@ use Rattle.tables.specs.declared.Message.{Message}
 use Rattle.tables.specs.Tables.{Replica, Machine, clientAt, directoryAt, replicaAt}
 use Rattle.tables.proofs.All.{All}
 use Rattle.rules.specs.Quorums.{enoughToWrite}
-use Rattle.rules.proofs.Covers.{Covers}
+use Rattle.rules.proofs.Covers.{Covers, Copied}
 use Rattle.rules.proofs.Every.{Secured}
 
 abbrev pub ifT : Bool → Type 0 → Type 0 → Type 0
@@ -69,7 +69,7 @@ Fact M x k =
     (ifT (eqb k 8) (While M (x .receiver) 6 (x .number) (λ t. t ≼ directoryAt M (x .sender) .tag))
     (ifT (eqb k 9) (While M (x .sender) 3 (x .number) (λ t. x .tag ≡ t) × CoversAt M (x .receiver) (x .tag) × Known M (x .tag))
     (ifT (eqb k 10) (While M (x .sender) 5 (x .number) (λ t. x .tag ≡ t))
-    (ifT (eqb k 12) (While M (x .receiver) 3 (x .number) (λ t. t ≼ x .tag) × Known M (x .tag))
+    (ifT (eqb k 12) (While M (x .receiver) 3 (x .number) (λ t. Copied t (x .tag) (x .set)) × Known M (x .tag))
     (ifT (eqb k 13) (While M (x .receiver) 5 (x .number) (λ t. CoversAt M (x .sender) t))
     (ifT (eqb k 14) (CoversAt M (x .sender) (x .tag))
     (ifT (eqb k 11 || eqb k 15) (Known M (x .tag))

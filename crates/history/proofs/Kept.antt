@@ -61,7 +61,7 @@ unfolding clientAfter
 moves-after w x Stale = moves-not w
 moves-after w x Waiting = moves-heard w x
 moves-after w x (Next t) = further w (moved (heard w x) t) (omega (arith, heard-keeps w x .number))
-moves-after w x (ReadEnded t) = rests w
+moves-after w x (ReadEnded t n) = rests w
 moves-after w x (WriteEnded t) = rests w
 moves-after w x Spent = rests w
 

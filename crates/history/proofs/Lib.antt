@@ -1,4 +1,4 @@
--- The layered machine keeps to the method, from its invariant up. Final has the theorems; the rest may change freely.
+-- The layered machine keeps to the method, from its invariant up. Final and Copies have the theorems; the rest may change freely.
 pub mod Rows
 pub mod Shape
 pub mod Invariant
@@ -15,4 +15,6 @@ pub mod Ranks
 pub mod Walk
 pub mod Fresh
 pub mod Final
+pub mod Reached
+pub mod Copies
 pub mod Example

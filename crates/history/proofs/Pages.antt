@@ -103,7 +103,7 @@ module _ (H : Tag → Page → Type 0) where
   client-in k own w v Stale g = unsent MessageIn
   client-in k own w v Waiting g = unsent MessageIn
   client-in k own w v (Next t) g = request-in k own v g
-  client-in k own w v (ReadEnded t) g = unsent MessageIn
+  client-in k own w v (ReadEnded t n) g = unsent MessageIn
   client-in k own w v (WriteEnded t) g = λ p h z. absurd z
   client-in k own w v Spent g = unsent MessageIn
 

@@ -9,7 +9,6 @@ use Rattle.sets.specs.Plain.{oneOf}
 use Rattle.sets.specs.declared.Tag.{Tag}
 use Rattle.sets.specs.Tags.{first}
 use Rattle.sets.proofs.Tests.{or-elim, or-left, or-right, if-ind}
-use Rattle.sets.proofs.TagOrder.{_≼_}
 use Rattle.tables.specs.declared.Entry.{Entry}
 use Rattle.tables.specs.declared.Message.{Message}
 use Rattle.tables.specs.Rows.{some?}
@@ -17,9 +16,9 @@ use Rattle.tables.specs.Tables.{Machine, noPage, noEntry, noReplica, replicaAt,
 use Rattle.tables.proofs.All.{all-row, all-replicate}
 use Rattle.mail.specs.declared.Post.{Post}
 use Rattle.mail.specs.Posts.{message}
-use Rattle.rules.specs.Replica.{highest, entryWith, read, replicaAfter, replicaPost, isFull, gossipPost}
+use Rattle.rules.specs.Replica.{highest, entryWith, read, mark, replicaAfter, replicaPost, isFull, gossipPost}
 use Rattle.rules.proofs.Highest.{highest-of}
-use Rattle.rules.proofs.Covers.{covers-new, highest-tag, read-reaches, read-of}
+use Rattle.rules.proofs.Covers.{Copied, covers-new, highest-tag, read-copies, read-of}
 use Rattle.rules.proofs.Every.{Secured, secured-after}
 use Rattle.history.proofs.Rows.{Sent}
 use Rattle.history.proofs.Invariant.{CoversAt, Known, Fact, MessageOk, Invariant}
@@ -51,8 +50,8 @@ module _ (M : Machine) (x : Message) (g : MessageOk M x) (es : List Entry) (ks :
     replica-sends nd =
         if-ind P (eqb (x .kind) 9)
         (λ k. let u : Fact M x 9 = subst (Fact M x) (eqb→eq (x .kind) 9 k) g in
-        to-one (MessageOk N) (message 12 (x .receiver) (read (x .tag) es .tag) 0 (x .number) (read (x .tag) es .page)) (x .sender) (
-          while-later l 3 tt (λ t q. subst (λ (z : Tag). z ≼ read (x .tag) es .tag) q (read-reaches es s (x .tag) (rw old at (u .1)))) (u .0),
+        to-one (MessageOk N) (message 12 (x .receiver) (read (x .tag) es .tag) (mark (x .tag) es) (x .number) (read (x .tag) es .page)) (x .sender) (
+          while-later l 3 tt (λ t q. subst (λ (z : Tag). Copied z (read (x .tag) es .tag) (mark (x .tag) es)) q (read-copies es s (x .tag) (rw old at (u .1)))) (u .0),
           known-later l (read-of es s (x .tag) (Known M) (u .2) ks),
         ))
         (λ _. if-ind P (eqb (x .kind) 10)

@@ -95,7 +95,7 @@ module _ (c n q : ℕ) (F : Tag) where
   count-client k own w v Stale = unsent C
   count-client k own w v Waiting = unsent C
   count-client k own w v (Next t) = count-request k own v
-  count-client k own w v (ReadEnded t) = unsent C
+  count-client k own w v (ReadEnded t n) = unsent C
   count-client k own w v (WriteEnded t) = λ p h z. absurd z
   count-client k own w v Spent = unsent C
 

@@ -21,6 +21,7 @@ use Rattle.rules.specs.declared.Outcome.the-variants.{Next, ReadEnded, WriteEnd
 use Rattle.rules.specs.Answers.{coded}
 use Rattle.rules.specs.Quorums.{enoughToRead}
 use Rattle.rules.specs.Client.{awaited, enoughFor, heard, moved, started, clientAfter}
+use Rattle.rules.proofs.Covers.{copied-reaches}
 use Rattle.rules.proofs.Heard.{heard-keeps}
 use Rattle.rules.proofs.Views.{Completes, View, v-stale, v-waits, v-1, v-2, v-3, v-4, v-spent, v-5, v-6}
 use Rattle.machine.specs.Effects.{Effect, applied}
@@ -165,10 +166,10 @@ module _ (M : Machine) (G : Good M) where
         (λ H v. subst (ClientIn (Ranked H)) (turned-is 2 (y .tag) i) (λ z. absurd z))
     hear (v-3 i) k =
         let f : Fact M x 12 = fact 3 i in
-        readEnds c (x .page) (rankOf (x .tag)) (stand-at c 3 (i .phase)) (ap standOf (new (ReadEnded (x .tag))))
+        readEnds c (x .page) (rankOf (x .tag)) (stand-at c 3 (i .phase)) (ap standOf (new (ReadEnded (x .tag) (x .set))))
         (λ r t.
         rank-least r (x .tag)
-        (≼-trans (track-at (tagOf r) 3 i t) (present M x (i .timely) 3 (i .phase) (f .0))))
+        (≼-trans (track-at (tagOf r) 3 i t) (copied-reaches (present M x (i .timely) 3 (i .phase) (f .0)))))
         (known-rank (x .tag) (m .facts .tag .client) (known-later (l k) (f .1)))
         (λ H v. message-row (Ranked H) M v s (subst (λ (q : ℕ). T (carriesPage q)) (sym (i .timely .kind ∙ ap awaited (i .phase))) tt))
         (others k c refl) (carry k (λ H v z. absurd z))

@@ -1,12 +1,12 @@
--- What a good machine says: each condition of Good, taken out.
-use mathlib.Core.Bool.{Bool, true, false, and-false, false≢true}
-use mathlib.Core.Path.{_≡_}
+-- What a good machine says: the conditions of Good, taken out; of a message those that later steps use.
+use mathlib.Core.Bool.{Bool, true, false, and-false, or-false, false≢true}
+use mathlib.Core.Path.{_≡_, refl, subst}
 use Prim.Native.Nat.{ℕ, suc, _+_, _*_, _%_, _^_, _≤_, _<_}
 use native.Mathlib.Omega.{arith}
 use borrow.Author.Tests.{eq-eqb, ne-eqb, eqb-true, leb-true, leb-false, ltb-true, ltb-false, lt-leb, le-leb, lt-ltb}
 use lib.Dec.{leb, eqb}
 use lib.ListN.{length, getD}
-use lib.Pow.{pow-pos}
+use lib.Pow.{pow-pos, pow-mono}
 use Rattle.sets.specs.Plain.{if_then_else_}
 use Rattle.sets.specs.declared.Tag.{Tag}
 use Rattle.sets.proofs.Tests.{passes-by}
@@ -16,13 +16,13 @@ use Rattle.tables.specs.declared.Directory.{Directory}
 use Rattle.tables.specs.declared.Entry.{Entry}
 use Rattle.tables.specs.declared.Message.{Message}
 use Rattle.tables.specs.Layouts.{inColumns}
-use Rattle.tables.specs.Kinds.{senderOf, receiverOf, manyOf, carriesSet, carriesTag, carriesPage, carriesNumber}
+use Rattle.tables.specs.Kinds.{senderOf, receiverOf, manyOf, carriesSet, carriesMark, carriesTag, carriesNumber}
 use Rattle.tables.specs.Phases.{asksDirectories, asksReplicas, usesReplicaSet, usesTag, usesPage, roundsLeft}
 use Rattle.tables.specs.Rows.{some?}
 use Rattle.tables.specs.Tables.{Replica, noEntry, isFree, isSecured}
 use Rattle.tables.specs.Words.{entryWords}
 use Rattle.tables.proofs.Quorums.{Counts, Columns, Quorums, counts, columns}
-use Rattle.inspect.specs.Good.{between, zeros, field, eachRow, goodCounts, goodColumns, goodNumbers, goodTag, zeroTag, goodSet, goodAnswered, goodClient, goodDirectory, goodEntry, tagsOnce, goodReplica, goodMessage}
+use Rattle.inspect.specs.Good.{between, zeros, field, eachRow, goodCounts, goodColumns, goodNumbers, goodTag, zeroTag, goodSet, goodMark, goodSetWord, goodAnswered, goodClient, goodDirectory, goodEntry, tagsOnce, goodReplica, goodMessage}
 use Rattle.inspect.specs.Inner.{Few}
 use Rattle.inspect.proofs.Tests.{le-by, eq-by, field-any, field-used, field-zero}
 use Rattle.inspect.proofs.Each.{each-at}
@@ -260,24 +260,18 @@ pub record MessageFacts (k : Conf) (x : Message) : Type 0 where
   pub some-receiver : 1 ≤ x .receiver
   pub receiver : x .receiver ≤ manyOf k (receiverOf (x .kind))
   pub tag : TagFacts k (x .tag)
-  pub no-tag : carriesTag (x .kind) ≡ false → zeroTag (x .tag) ≡ true
   pub set : x .set < 2 ^ k .replicas
-  pub no-set : carriesSet (x .kind) ≡ false → x .set ≡ 0
   pub numbered : carriesNumber (x .kind) ≡ true → 1 ≤ x .number
   pub number : x .number ≤ k .top
-  pub no-number : carriesNumber (x .kind) ≡ false → x .number ≡ 0
-  pub spare : x .spare ≡ 0
-  pub no-page : carriesPage (x .kind) ≡ false → zeros (x .page) ≡ true
 
 module _ (k : Conf) (x : Message) (g : goodMessage k x ≡ true) where
   message-tag : field (carriesTag (x .kind)) (goodTag k (x .tag)) (zeroTag (x .tag)) ≡ true
   unfolding goodMessage
   message-tag = passes-by (field (carriesTag (x .kind)) (goodTag k (x .tag)) (zeroTag (x .tag))) (goodMessage k x) (λ f. simp (f, and-false)) g
 
-  message-set : field (carriesSet (x .kind)) (goodSet (k .replicas) (x .set)) (eqb (x .set) 0) ≡ true
+  message-set : goodSetWord k (x .kind) (x .set) ≡ true
   unfolding goodMessage
-  message-set =
-      passes-by (field (carriesSet (x .kind)) (goodSet (k .replicas) (x .set)) (eqb (x .set) 0)) (goodMessage k x) (λ f. simp (f, and-false)) g
+  message-set = passes-by (goodSetWord k (x .kind) (x .set)) (goodMessage k x) (λ f. simp (f, and-false)) g
 
   message-number : field (carriesNumber (x .kind)) (between 1 (k .top) (x .number)) (eqb (x .number) 0) ≡ true
   unfolding goodMessage
@@ -290,22 +284,37 @@ module _ (k : Conf) (x : Message) (g : goodMessage k x ≡ true) where
       (λ f. simp (f, ne-eqb (x .number) 0 (λ (z : x .number ≡ 0). omega (arith, leb-false (x .number) (k .top) f)), and-false))
       message-number
 
+  some-sender : 1 ≤ x .sender
+  unfolding goodMessage
+  some-sender = le-by 1 (x .sender) (goodMessage k x) (λ f. simp (f, and-false)) g
+
+  sender-in : x .sender ≤ manyOf k (senderOf (x .kind))
+  unfolding goodMessage
+  sender-in = le-by (x .sender) (manyOf k (senderOf (x .kind))) (goodMessage k x) (λ f. simp (f, and-false)) g
+
+  -- a mark comes from a replica: there is one, so that a mark is in range as a set is
+  unset : field (carriesMark (x .kind)) (goodMark (x .set)) (eqb (x .set) 0) ≡ true → goodSet (k .replicas) (x .set) ≡ true
+  unfolding senderOf
+  unset = go (carriesMark (x .kind)) refl
+    where
+      go : (b : Bool) → carriesMark (x .kind) ≡ b → field b (goodMark (x .set)) (eqb (x .set) 0) ≡ true → goodSet (k .replicas) (x .set) ≡ true
+      go true e h =
+          let r : x .sender ≤ k .replicas = subst (λ (n : ℕ). x .sender ≤ manyOf k (senderOf n)) (eqb-true (x .kind) 12 e) sender-in in
+          let two : 2 ^ 1 ≤ 2 ^ k .replicas = pow-mono {i = 1} {j = k .replicas} (omega (arith, some-sender)) in
+          lt-ltb (x .set) (2 ^ k .replicas) (omega (arith, leb-true (x .set) 1 (rw (or-false (goodMark (x .set))) at h)))
+      go false e h = lt-ltb (x .set) (2 ^ k .replicas) (omega (arith, eqb-true (x .set) 0 h, pow-pos (k .replicas)))
+
   pub message-facts : MessageFacts k x
   unfolding goodMessage
   message-facts =
       record {
         kind = le-by (x .kind) 15 (goodMessage k x) (λ f. simp f) g;
-        some-sender = le-by 1 (x .sender) (goodMessage k x) (λ f. simp (f, and-false)) g;
-        sender = le-by (x .sender) (manyOf k (senderOf (x .kind))) (goodMessage k x) (λ f. simp (f, and-false)) g;
+        some-sender = some-sender;
+        sender = sender-in;
         some-receiver = le-by 1 (x .receiver) (goodMessage k x) (λ f. simp (f, and-false)) g;
         receiver = le-by (x .receiver) (manyOf k (receiverOf (x .kind))) (goodMessage k x) (λ f. simp (f, and-false)) g;
         tag = tag-in k (carriesTag (x .kind)) (x .tag) message-tag;
-        no-tag = λ u. field-zero _ _ _ u message-tag;
-        set = set-in (k .replicas) (carriesSet (x .kind)) (x .set) message-set;
-        no-set = λ u. eqb-true _ _ (field-zero _ _ _ u message-set);
+        set = ltb-true _ _ (field-any (carriesSet (x .kind)) (goodSet (k .replicas) (x .set)) _ unset message-set);
         numbered = λ u. le-by 1 (x .number) (between 1 (k .top) (x .number)) (λ f. simp f) (field-used _ _ _ u message-number);
         number = leb-true _ _ at-top;
-        no-number = λ u. eqb-true _ _ (field-zero _ _ _ u message-number);
-        spare = eq-by (x .spare) 0 (goodMessage k x) (λ f. simp (f, and-false)) g;
-        no-page = λ u. passes-by (zeros (x .page)) (goodMessage k x) (λ f. simp (f, u, and-false)) g;
       }

@@ -10,13 +10,10 @@ use Rattle.tables.specs.declared.Conf.{Conf}
 use Rattle.tables.specs.declared.Client.{Client}
 use Rattle.tables.specs.declared.Directory.{Directory}
 use Rattle.tables.specs.declared.Entry.{Entry}
-use Rattle.tables.specs.declared.Message.{Message}
-use Rattle.tables.specs.Kinds.{carriesSet, carriesTag, carriesPage, carriesNumber}
 use Rattle.tables.specs.Phases.{isIdle, asksDirectories, asksReplicas, usesReplicaSet, usesTag, usesPage}
-use Rattle.tables.specs.Tables.{Replica, noEntry, isFree}
-use Rattle.inspect.specs.Good.{between, zeros, field, goodTag, zeroTag, goodSet, goodClient, goodDirectory, goodEntry, goodReplica, goodMessage}
-use Rattle.inspect.proofs.Each.{each-all}
-use Rattle.inspect.proofs.Facts.{TagFacts, ClientFacts, DirectoryFacts, EntryFacts, ReplicaFacts, MessageFacts}
+use Rattle.tables.specs.Tables.{isFree}
+use Rattle.inspect.specs.Good.{zeros, field, goodTag, zeroTag, goodSet, goodClient, goodDirectory, goodEntry}
+use Rattle.inspect.proofs.Facts.{TagFacts, ClientFacts, DirectoryFacts, EntryFacts}
 
 or-by : (a b : Bool) → (a ≡ false → b ≡ true) → a || b ≡ true
 or-by true b h = refl
@@ -68,27 +65,3 @@ directory-made k d f = rw (le-leb _ _ (f .down), tag-made k (d .tag) (f .tag), l
 pub entry-made : (k : Conf) (e : Entry) → EntryFacts k e → isFree e ≡ false → goodEntry k e ≡ true
 unfolding goodEntry
 entry-made k e f u = rw (u, le-leb _ _ (f .state), tag-made k (e .tag) (f .tag), eq-eqb _ _ (f .spare))
-
-pub replica-made : (k : Conf) (r : Replica) → ReplicaFacts k r → goodReplica k r ≡ true
-unfolding goodReplica
-replica-made k r f = rw (le-leb _ _ (f .down), each-all (λ e. goodEntry k) 1 (r .entries) noEntry (f .entries), f .once, f .secured)
-
-pub message-made : (k : Conf) (x : Message) → MessageFacts k x → goodMessage k x ≡ true
-unfolding goodMessage
-message-made k x f =
-    rw (
-      le-leb _ _ (f .kind),
-      le-leb _ _ (f .some-sender),
-      le-leb _ _ (f .sender),
-      le-leb _ _ (f .some-receiver),
-      le-leb _ _ (f .receiver),
-      field-by (carriesTag (x .kind)) (goodTag k (x .tag)) (zeroTag (x .tag)) (tag-made k (x .tag) (f .tag)) (f .no-tag),
-      field-by (carriesSet (x .kind)) (goodSet (k .replicas) (x .set)) (eqb (x .set) 0) (lt-ltb _ _ (f .set)) (λ u. eq-eqb _ _ (f .no-set u)),
-      numbered (carriesNumber (x .kind)) refl,
-      eq-eqb _ _ (f .spare),
-      or-by (carriesPage (x .kind)) (zeros (x .page)) (f .no-page),
-    )
-  where
-    numbered : (b : Bool) → carriesNumber (x .kind) ≡ b → field b (between 1 (k .top) (x .number)) (eqb (x .number) 0) ≡ true
-    numbered true e = rw (le-leb _ _ (f .numbered e), le-leb _ _ (f .number))
-    numbered false e = rw (eq-eqb _ _ (f .no-number e))

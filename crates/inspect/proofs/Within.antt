@@ -15,10 +15,10 @@ use Rattle.sets.proofs.Tests.{T-ext}
 use Rattle.tables.specs.declared.Conf.{Conf}
 use Rattle.tables.specs.declared.Client.{Client}
 use Rattle.tables.specs.declared.Message.{Message}
-use Rattle.tables.specs.Kinds.{carriesSet, carriesTag, carriesPage, carriesNumber}
+use Rattle.tables.specs.Kinds.{carriesSet, carriesMark, carriesTag, carriesPage, carriesNumber}
 use Rattle.tables.specs.Phases.{isIdle, usesTag, asksDirectories, asksReplicas, usesReplicaSet, usesPage, roundsLeft}
 use Rattle.inspect.specs.declared.limits.Limits.{Limits}
-use Rattle.inspect.specs.Good.{between, zeros, field, goodTag, zeroTag, goodSet, goodClient, goodMessage, tagWithin}
+use Rattle.inspect.specs.Good.{between, zeros, field, goodTag, zeroTag, goodSet, goodMark, goodClient, goodMessage, tagWithin}
 use Rattle.inspect.specs.Inner.{limit, kindLimits, phaseLimits, limitsWords, limitsOf, limitsTable, clientWithin, messageWithin}
 
 -- ---- tests
@@ -55,6 +55,12 @@ below n s = let h : 1 ≤ 2 ^ n = pow-pos n in same (suc s) (2 ^ n) s (2 ^ n - 1
 set-within : (used : Bool) (n s : ℕ) → field used (goodSet n s) (eqb s 0) ≡ leb s (limit used (2 ^ n - 1))
 set-within true n s = or-false (goodSet n s) ∙ below n s
 set-within false n s = sym (at-zero s)
+
+-- of a message: a set, a mark or neither
+word-within : (a b : Bool) (n s : ℕ) → field a (goodSet n s) (field b (goodMark s) (eqb s 0)) ≡ leb s (if a then 2 ^ n - 1 else limit b 1)
+word-within true b n s = or-false (goodSet n s) ∙ below n s
+word-within false true n s = or-false (goodMark s)
+word-within false false n s = sym (at-zero s)
 
 or-none : (n s : ℕ) → goodSet n s || eqb s 0 ≡ leb s (2 ^ n - 1)
 or-none n s = go (eqb s 0) refl
@@ -100,7 +106,7 @@ message-within k x p e fits h =
     rw (
       le-leb (x .kind) 15 h,
       tag-within (carriesTag (x .kind)) k (x .tag),
-      set-within (carriesSet (x .kind)) (k .replicas) (x .set),
+      word-within (carriesSet (x .kind)) (carriesMark (x .kind)) (k .replicas) (x .set),
       number-within (carriesNumber (x .kind)) (k .top) (x .number),
       page-within (carriesPage (x .kind)) p (x .page) e fits,
     )

@@ -14,7 +14,7 @@ use Rattle.tables.specs.Rows.{some?}
 use Rattle.tables.specs.Tables.{Replica, Machine, isFree, hasTag, isSecured, isEmpty}
 use Rattle.tables.specs.Words.{clientWords, directoryWords, entryWords, replicaWords, messageWords}
 use Rattle.tables.specs.Machines.{machineOf}
-use Rattle.tables.specs.Kinds.{senderOf, receiverOf, manyOf, carriesSet, carriesTag, carriesPage, carriesNumber}
+use Rattle.tables.specs.Kinds.{senderOf, receiverOf, manyOf, carriesSet, carriesMark, carriesTag, carriesPage, carriesNumber}
 use Rattle.tables.specs.Phases.{isIdle, usesTag, asksDirectories, asksReplicas, usesReplicaSet, usesPage, roundsLeft}
 
 -- ---- tests
@@ -84,6 +84,14 @@ zeroTag t = eqb (t .number) 0 && eqb (t .client) 0
 abbrev pub goodSet : ℕ → ℕ → Bool
 goodSet n s = ltb s (2 ^ n)
 
+-- "1 for the exact tag and 0 for the other, any other value making a bad machine"
+abbrev pub goodMark : ℕ → Bool
+goodMark n = leb n 1
+
+-- a message's set word: a set of replicas, a mark or neither, by what the kind carries
+abbrev pub goodSetWord : Conf → ℕ → ℕ → Bool
+goodSetWord k kind s = field (carriesSet kind) (goodSet (k .replicas) s) (field (carriesMark kind) (goodMark s) (eqb s 0))
+
 -- a client's answered set: one of directories or of replicas, by what the phase asks
 abbrev pub goodAnswered : Conf → ℕ → ℕ → Bool
 goodAnswered k phase s =
@@ -133,7 +141,7 @@ goodMessage k x =
     && isParty k (senderOf (x .kind)) (x .sender)
     && isParty k (receiverOf (x .kind)) (x .receiver)
     && field (carriesTag (x .kind)) (goodTag k (x .tag)) (zeroTag (x .tag))
-    && field (carriesSet (x .kind)) (goodSet (k .replicas) (x .set)) (eqb (x .set) 0)
+    && goodSetWord k (x .kind) (x .set)
     && field (carriesNumber (x .kind)) (between 1 (k .top) (x .number)) (eqb (x .number) 0)
     && eqb (x .spare) 0
     && (carriesPage (x .kind) || zeros (x .page))

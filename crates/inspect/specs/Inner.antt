@@ -13,7 +13,7 @@ use Rattle.tables.specs.declared.Conf.{Conf}
 use Rattle.tables.specs.declared.Client.{Client}
 use Rattle.tables.specs.declared.Entry.{Entry}
 use Rattle.tables.specs.declared.Message.{Message}
-use Rattle.tables.specs.Kinds.{senderOf, receiverOf, manyOf, carriesSet, carriesTag, carriesPage, carriesNumber}
+use Rattle.tables.specs.Kinds.{senderOf, receiverOf, manyOf, carriesSet, carriesMark, carriesTag, carriesPage, carriesNumber}
 use Rattle.tables.specs.Phases.{isIdle, usesTag, asksDirectories, asksReplicas, usesReplicaSet, usesPage, roundsLeft}
 use Rattle.tables.specs.Rows.{some?}
 use Rattle.tables.specs.Tables.{Replica, noEntry, isFree, hasTag}
@@ -84,7 +84,7 @@ kindLimits k kind =
       second = manyOf k (receiverOf kind);
       number = limit (carriesTag kind) (k .top);
       client = limit (carriesTag kind) (k .clients);
-      set = limit (carriesSet kind) (2 ^ k .replicas - 1);
+      set = if carriesSet kind then 2 ^ k .replicas - 1 else limit (carriesMark kind) 1;
       least = limit (carriesNumber kind) 1;
       most = limit (carriesNumber kind) (k .top);
       page = limit (carriesPage kind) 4294967295;

@@ -9,7 +9,7 @@ pub(crate) struct Limits {
     pub second: u32, // a message's receiver
     pub number: u32, // the tag's number
     pub client: u32, // the tag's client
-    pub set: u32, // the set of replicas
+    pub set: u32, // the set of replicas, or a message's mark
     pub least: u32, // at least: the message number
     pub most: u32, // at most
     pub page: u32, // the page's words joined
@@ -55,7 +55,7 @@ pub(crate) fn kinds(k: Conf) -> [[u32; 8]; 16]
         [c, r, t, c, 0, 1, t, 0], // 9 read
         [c, r, t, c, 0, 1, t, p], // 10 write
         [c, r, t, c, 0, 1, t, 0], // 11 secure
-        [r, c, t, c, 0, 1, t, p], // 12 read-ok
+        [r, c, t, c, 1, 1, t, p], // 12 read-ok, and its mark
         [r, c, 0, 0, 0, 1, t, 0], // 13 write-ok
         [r, d, t, c, 0, 0, 0, 0], // 14 notice
         [r, r, t, c, 0, 0, 0, p], // 15 gossip

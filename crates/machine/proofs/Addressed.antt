@@ -62,6 +62,6 @@ module _ (d : ℕ) (few : d ≤ 16) (k : Conf) (n : NumbersFacts d k) where
     client-few own (Next t) =
         request-few own (moved (heard w x) t)
         (if-ind Small (eqb (heard w x .phase) 5) (λ _. rw (heard-answered w x) (with-lt 16 (w .answered) (x .sender) a p)) (λ _. heard-set))
-    client-few own (ReadEnded t) = omega arith
+    client-few own (ReadEnded t n) = omega arith
     client-few own (WriteEnded t) = s
     client-few own Spent = omega arith

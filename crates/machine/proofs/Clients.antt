@@ -44,8 +44,8 @@ use Rattle.machine.proofs.Parties.{ready-numbers, few-sets, numbers-of}
 use Rattle.machine.proofs.Landings.{own, effect-up, lands, drops, not-full, room-none, page-kept}
 
 -- the page is filled only where nothing is sent
-filled-by : (x : Message) (page : Page) (o : Outcome) (b : Bool) → ((t : Tag) → o ≡ ReadEnded t → b ≡ true) → filled o x page ≡ (if b then filled o x page else page)
-filled-by x page (ReadEnded t) b h = rw (h t refl)
+filled-by : (x : Message) (page : Page) (o : Outcome) (b : Bool) → ((t : Tag) (n : ℕ) → o ≡ ReadEnded t n → b ≡ true) → filled o x page ≡ (if b then filled o x page else page)
+filled-by x page (ReadEnded t n) b h = rw (h t n refl)
 filled-by x page Waiting b h = page-kept b page
 filled-by x page (Next t) b h = page-kept b page
 filled-by x page (WriteEnded t) b h = page-kept b page
@@ -130,5 +130,5 @@ module _ {lay : Layout} {m : List ℕ} {s : ℕ} {x : Message} (g : Arrived lay 
                 ≡ taken (suc s) (client (suc (x .receiver - 1)) (clientAfter w x o)) (clientPost k (x .receiver) w (clientAfter w x o) o) (answerOf (x .receiver) o) (filled o x page)
             effect = effect-up g page (flag false (ne-eqb _ _ f)) ∙ rw (own g, q, c, conf-of lay m, here)
 
-            room : (t : Tag) → o ≡ ReadEnded t → hasRoom (machineOf lay m) (clientPost k (x .receiver) w (clientAfter w x o) o) ≡ true
-            room t h = rw h (room-none (machineOf lay m))
+            room : (t : Tag) (n : ℕ) → o ≡ ReadEnded t n → hasRoom (machineOf lay m) (clientPost k (x .receiver) w (clientAfter w x o) o) ≡ true
+            room t n h = rw h (room-none (machineOf lay m))

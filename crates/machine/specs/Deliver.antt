@@ -24,7 +24,7 @@ taken s change post answer page = record { emptied = s ∷ []; change = change; 
 
 -- "Deliver takes a page to fill, written by code 1 only"
 abbrev pub filled : Outcome → Message → Page → Page
-filled (ReadEnded t) x page = x .page
+filled (ReadEnded t mark) x page = x .page
 filled Waiting x page = page
 filled (Next t) x page = page
 filled (WriteEnded t) x page = page

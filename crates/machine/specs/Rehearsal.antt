@@ -1,4 +1,4 @@
--- The paper's worked rehearsal, run through the definitions: each line's code, client, tag and first page word.
+-- The paper's worked rehearsal, run through the definitions: each line's code, client, tag, first page word and mark.
 use mathlib.Core.Path.{_≡_, refl}
 use mathlib.Core.List.{List, [], _∷_}
 use Prim.Native.Nat.{ℕ}
@@ -15,7 +15,7 @@ use Rattle.mail.specs.Posts.{messagesOf}
 use Rattle.inspect.specs.Good.{goodNumbers}
 use Rattle.rules.specs.Quorums.{enoughToRead, enoughToWrite}
 use Rattle.rules.specs.Directory.{directoryAfter, directoryPost}
-use Rattle.rules.specs.Replica.{entryWith, higherOf, highest, secure, write, hearGossip, read, tidied, replicaAfter, replicaPost, isFull, gossipPost}
+use Rattle.rules.specs.Replica.{entryWith, higherOf, highest, secure, write, hearGossip, read, mark, tidied, replicaAfter, replicaPost, isFull, gossipPost}
 use Rattle.rules.specs.Client.{awaited, enoughFor, isStale, heard, chosen, turned, outcome, clientAfter, request, secures, clientPost}
 use Rattle.machine.specs.SetUp.{newMachine}
 use Rattle.machine.specs.Calls.{Call, setUp, startRead, startWrite, deliver, partyOf, startEffect, gossipEffect, tidyEffect, crashEffect}
@@ -27,11 +27,11 @@ use Rattle.machine.specs.Steps.{Result, effectOf, step}
 abbrev pageOf : ℕ → Page
 pageOf w = w ∷ replicate 15 0
 
--- code, client, tag number, tag client, and the first page word if the code is 1
+-- code, client, tag number, tag client, the first page word if the code is 1, and the mark
 abbrev lineOf : Result → List ℕ
 lineOf r =
     r .answer .code ∷ r .answer .client ∷ r .answer .tag .number ∷ r .answer .tag .client
-    ∷ (if eqb (r .answer .code) 1 then getD (r .page) 0 0 else 0) ∷ []
+    ∷ (if eqb (r .answer .code) 1 then getD (r .page) 0 0 else 0) ∷ r .answer .mark ∷ []
 
 pub lines : Machine → List Call → List (List ℕ)
 lines M [] = []
@@ -51,11 +51,11 @@ schedule =
     ∷ startRead 1 ∷ d2 ∷ d2 ∷ d2 ∷ d2 ∷ d2 ∷ d2 ∷ startRead 1 ∷ []
 
 abbrev quiet : List ℕ
-quiet = 0 ∷ 0 ∷ 0 ∷ 0 ∷ 0 ∷ []
+quiet = 0 ∷ 0 ∷ 0 ∷ 0 ∷ 0 ∷ 0 ∷ []
 
 -- from 4,992 zero words
 pub rehearsed : lines (machineOf base (replicate 4992 0)) schedule
-    ≡ quiet ∷ quiet ∷ quiet ∷ quiet ∷ quiet ∷ quiet ∷ quiet ∷ (2 ∷ 1 ∷ 1 ∷ 1 ∷ 0 ∷ [])
-    ∷ quiet ∷ quiet ∷ quiet ∷ quiet ∷ quiet ∷ quiet ∷ (1 ∷ 1 ∷ 1 ∷ 1 ∷ 9 ∷ []) ∷ (21 ∷ 0 ∷ 0 ∷ 0 ∷ 0 ∷ []) ∷ []
-unfolding machineOf clientsOf directoriesOf slotsOf confOf clientOf directoryOf entryOf messageOf entriesOf replicasOf rowsOf lines schedule ones onesIn against senderOf receiverOf noPage noClient noDirectory noEntry noReplica noMessage goodNumbers messagesOf enoughToRead enoughToWrite directoryAfter directoryPost entryWith higherOf highest secure write hearGossip read tidied replicaAfter replicaPost isFull gossipPost awaited enoughFor isStale heard chosen turned outcome clientAfter request secures clientPost partyOf startEffect gossipEffect tidyEffect crashEffect clientEffect directoryEffect replicaEffect deliverEffect refusal newMachine effectOf step
+    ≡ quiet ∷ quiet ∷ quiet ∷ quiet ∷ quiet ∷ quiet ∷ quiet ∷ (2 ∷ 1 ∷ 1 ∷ 1 ∷ 0 ∷ 0 ∷ [])
+    ∷ quiet ∷ quiet ∷ quiet ∷ quiet ∷ quiet ∷ quiet ∷ (1 ∷ 1 ∷ 1 ∷ 1 ∷ 9 ∷ 1 ∷ []) ∷ (21 ∷ 0 ∷ 0 ∷ 0 ∷ 0 ∷ 0 ∷ []) ∷ []
+unfolding machineOf clientsOf directoriesOf slotsOf confOf clientOf directoryOf entryOf messageOf entriesOf replicasOf rowsOf lines schedule ones onesIn against senderOf receiverOf noPage noClient noDirectory noEntry noReplica noMessage goodNumbers messagesOf enoughToRead enoughToWrite directoryAfter directoryPost entryWith higherOf highest secure write hearGossip read mark tidied replicaAfter replicaPost isFull gossipPost awaited enoughFor isStale heard chosen turned outcome clientAfter request secures clientPost partyOf startEffect gossipEffect tidyEffect crashEffect clientEffect directoryEffect replicaEffect deliverEffect refusal newMachine effectOf step
 rehearsed = refl

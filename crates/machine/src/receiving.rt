@@ -175,7 +175,7 @@ fn fill(page: &mut [u32], x: Message, o: Outcome)
 {
     let new = x.page;
     match o {
-        Outcome::ReadEnded(_) => rows::copy_in(page, &new),
+        Outcome::ReadEnded(_, _) => rows::copy_in(page, &new),
         Outcome::Waiting => {}
         Outcome::Next(_) => {}
         Outcome::WriteEnded(_) => {}

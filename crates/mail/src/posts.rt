@@ -8,15 +8,23 @@ use tables::Message;
 use tables::blank;
 
 // A message with a page.
-pub fn paged(kind: u32, sender: u32, t: Tag, number: u32, page: [u32; 16], to: u32) -> Post
-    ensures { λ r. ⌜ r ≡ post (message kind sender t 0 number page) to ⌝ }
+pub fn paged(
+    kind: u32,
+    sender: u32,
+    t: Tag,
+    set: u32,
+    number: u32,
+    page: [u32; 16],
+    to: u32,
+) -> Post
+    ensures { λ r. ⌜ r ≡ post (message kind sender t set number page) to ⌝ }
 {
     let x = Message {
         kind,
         sender,
         receiver: 0,
         tag: t,
-        set: 0,
+        set,
         number,
         spare: 0,
         page,

@@ -76,7 +76,7 @@ module _ (s : State) (b : Bool) (u : (p l : List ℕ) → Held p l (s .len) → 
   no-more out e =
       record { room = omega arith; text = λ p l m h. rw (← u p l h) (rw e) }
 
-  pub one-more : (k r : ℕ) (out out' : List ℕ) → b ≡ true → k ≡ following (s .lines) → Printed 126 out 0 (answerText k 18 0 0 0 0) out' r → Ended s out' r
+  pub one-more : (k r : ℕ) (out out' : List ℕ) → b ≡ true → k ≡ following (s .lines) → Printed 147 out 0 (answerText k 18 0 0 0 0 0) out' r → Ended s out' r
   unfolding ahead commandsFrom outputOf printed
   one-more k r out out' e f t =
       record {

@@ -63,10 +63,10 @@ on-none m w b c x r e f h = rw (h, e, f) (go b)
     go false = record { answer = refl; word = refl; named = refl; base = refl; wide = refl }
 
 -- what its call gave is printed
-pub answered : (m w out : List ℕ) (s : State) (c : Command) (r : Reply) (m' w' out' : List ℕ) (n at : ℕ) (b : Bool) → s .at ≤ 65410
+pub answered : (m w out : List ℕ) (s : State) (c : Command) (r : Reply) (m' w' out' : List ℕ) (n at : ℕ) (b : Bool) → s .at ≤ 65389
     → n ≡ following (s .lines) → Replied c (machines (s .wide) m w) r m' w' → b ≡ inForce (r .answer .code) (r .wide) (s .wide)
-    → Printed 126 out (s .at) (answerText n (r .answer .code) (r .answer .client) (r .answer .tag .number) (r .answer .tag .client) (r .word)) out' at
-    → Answered c (machines (s .wide) m w) out s (machines b m' w') out' (record { lines = n; len = 0; from = s .from; at = at; on = leb at 65410; wide = b })
+    → Printed 147 out (s .at) (answerText n (r .answer .code) (r .answer .client) (r .answer .tag .number) (r .answer .tag .client) (r .word) (r .answer .mark)) out' at
+    → Answered c (machines (s .wide) m w) out s (machines b m' w') out' (record { lines = n; len = 0; from = s .from; at = at; on = leb at 65389; wide = b })
 unfolding printed
 answered m w out s c r m' w' out' n at b h e g q t =
     let z : b ≡ machinesAfter c (machines (s .wide) m w) .isWide = q ∙ rw (g .answer, g .named) in
@@ -77,5 +77,5 @@ answered m w out s c r m' w' out' n at b h e g q t =
       machines = rw (z, g .base, g .wide);
       text = t .text ∙ rw (g .answer, g .word);
       room = omega (arith, t .high);
-      space = λ y. leb-true at 65410 y;
+      space = λ y. leb-true at 65389 y;
     }

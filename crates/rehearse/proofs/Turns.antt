@@ -33,7 +33,7 @@ module _ (chunk : List ℕ) (s : State) (m : Machines) (l out l' : List ℕ) (f 
   abbrev fed : State
   fed = record { lines = s .lines; len = f .len; from = f .at; at = s .at; on = false; wide = s .wide }
 
-  pub rest : f .ended ≡ false → s .at ≤ 65410 → Turned chunk s m l out fed m l' out
+  pub rest : f .ended ≡ false → s .at ≤ 65389 → Turned chunk s m l out fed m l' out
   unfolding ahead
   rest n h =
       record {
@@ -123,7 +123,7 @@ pub record Consuming (chunk : List ℕ) (s : State) (m : Machines) (l : List ℕ
   pub goes : Goes chunk s m l [] r m' l' (take (r .at) out')
   pub some : r .on ≡ false → min (s .from + 1) (length chunk) ≤ r .from
   pub room : r .at ≤ 65536
-  pub space : r .on ≡ true → r .at ≤ 65410
+  pub space : r .on ≡ true → r .at ≤ 65389
 
 module _ (chunk : List ℕ) (s : State) (m : Machines) (l : List ℕ) where
   pub no-turn : (out : List ℕ) → s .from ≤ length chunk → s .at ≡ 0 → s .on ≡ true → Consuming chunk s m l s m l out
@@ -136,7 +136,7 @@ module _ (chunk : List ℕ) (s : State) (m : Machines) (l : List ℕ) where
       }
 
   module _ (r : State) (m' : Machines) (l' out' : List ℕ) (g : Consuming chunk s m l r m' l' out') where
-    pub has-space : r .on ≡ true → r .at ≤ 65410
+    pub has-space : r .on ≡ true → r .at ≤ 65389
     has-space n = g .space n
 
     pub one-turn : (t : State) (m'' : Machines) (l'' out'' : List ℕ) → Turned chunk r m' l' out' t m'' l'' out'' → Consuming chunk s m l t m'' l'' out''

@@ -1,5 +1,6 @@
 -- "`rehearse` starts from 4,992 zero words and reads standard input. [..] Any other line, or a last one without LF, gets code 18.
 -- Each line prints line number, code, client, tag number, tag client, and the first page word if the code is 1, else 0."
+-- And of the mark: "The rehearsal program prints it last on each line."
 -- And of columns: "a machine has 5,036 words [..]. The program's set-up line is `C nc nd nr f columns top w`."
 use Prim.Native.Nat.{min}
 use Rattle.sets.specs.Plain.{Bool, true, false, List, [], _∷_, _++_, ℕ, _+_, eqb, getD, replicate, Option, none, some, if_then_else_}
@@ -78,7 +79,7 @@ machinesAfter c a =
 -- the line that it prints
 unfoldable pub printed : ℕ → Outcomes → List ℕ
 printed n o =
-    answerText n (o .answer .code) (o .answer .client) (o .answer .tag .number) (o .answer .tag .client) (getD (o .page) 0 0)
+    answerText n (o .answer .code) (o .answer .client) (o .answer .tag .number) (o .answer .tag .client) (getD (o .page) 0 0) (o .answer .mark)
 
 -- lines count from 1, in 64 bits: at their top the count stays
 abbrev pub following : ℕ → ℕ

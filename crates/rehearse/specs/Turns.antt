@@ -32,7 +32,7 @@ pub record Answered (c : Command) (m : Machines) (out : List ℕ) (s : State) (m
   pub machines : m' ≡ machinesAfter c m
   pub text : take (r .at) out' ≡ take (s .at) out ++ printed (r .lines) (outcomeOf c m)
   pub room : r .at ≤ 65536
-  pub space : r .on ≡ true → r .at ≤ 65410
+  pub space : r .on ≡ true → r .at ≤ 65389
 
 abbrev pub stand : State → Machines → List ℕ → Stand
 stand s m p = record { lines = s .lines; machines = m; pending = p }
@@ -55,7 +55,7 @@ pub record Turned (chunk : List ℕ) (s : State) (m : Machines) (l out : List �
   pub some : min (s .from + 1) (length chunk) ≤ r .from
   pub further : r .on ≡ true → s .from < r .from
   pub room : r .at ≤ 65536
-  pub space : r .on ≡ true → r .at ≤ 65410
+  pub space : r .on ≡ true → r .at ≤ 65389
 
 -- turns up to the chunk's end, or until the output is full: it has their answers, and nothing else
 pub record Consumed (chunk : List ℕ) (s : State) (m : Machines) (l : List ℕ) (r : State) (m' : Machines) (l' out' : List ℕ) : Type 0 where

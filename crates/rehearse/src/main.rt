@@ -34,11 +34,21 @@ struct State {
 
 // The line that answers a call.
 fn put(out: &mut [u8], at: usize, line: u64, a: Answer, word: u32) -> usize
-    requires { ⌜ at + 126 ≤ length (now out) ⌝ }
-    ensures { λ r. ⌜ Printed 126 (now (out .entry)) at (answerText line (a .code) (a .client) (a .tag .number) (a .tag .client) word) (now (out .exit)) r ⌝ }
+    requires { ⌜ at + 147 ≤ length (now out) ⌝ }
+    ensures { λ r. ⌜ Printed 147 (now (out .entry)) at (answerText line (a .code) (a .client) (a .tag .number) (a .tag .client) word (a .mark)) (now (out .exit)) r ⌝ }
 {
     let t = a.tag;
-    printing::put_answer(out, at, line, a.code, a.client, t.number, t.client, word)
+    printing::put_answer(
+        out,
+        at,
+        line,
+        a.code,
+        a.client,
+        t.number,
+        t.client,
+        word,
+        a.mark,
+    )
 }
 
 // The number of the line after k lines.
@@ -57,7 +67,7 @@ fn in_force(code: u32, named: bool, before: bool) -> bool
 
 // Answers a line.
 fn answer(m: &mut [u32], w: &mut [u32], c: Command, out: &mut [u8], s: State) -> State
-    requires { ⌜ (length (now out) ≡ 65536) × (s .at ≤ 65410) ⌝ }
+    requires { ⌜ (length (now out) ≡ 65536) × (s .at ≤ 65389) ⌝ }
     ensures { λ r. ⌜ Answered c (machines (s .wide) (now (m .entry)) (now (w .entry))) (now (out .entry)) s (machines (r .wide) (now (m .exit)) (now (w .exit))) (now (out .exit)) r ⌝ }
 {
     let lines = next(s.lines);
@@ -70,7 +80,7 @@ fn answer(m: &mut [u32], w: &mut [u32], c: Command, out: &mut [u8], s: State) ->
         len: 0,
         from: s.from,
         at,
-        on: at <= 65410,
+        on: at <= 65389,
         wide,
     }
 }
@@ -85,7 +95,7 @@ fn turn(
     s: State,
 ) -> State
     requires { ⌜ Buffers (now line) (now out) ⌝ }
-    requires { ⌜ (s .at ≤ 65410) × (s .from ≤ length (now chunk)) ⌝ }
+    requires { ⌜ (s .at ≤ 65389) × (s .from ≤ length (now chunk)) ⌝ }
     ensures { λ r. ⌜ Turned (now (chunk .entry)) s (machines (s .wide) (now (m .entry)) (now (w .entry))) (now (line .entry)) (now (out .entry)) r (machines (r .wide) (now (m .exit)) (now (w .exit))) (now (line .exit)) (now (out .exit)) ⌝ }
 {
     let f = input::feed(line, s.len, chunk, s.from);

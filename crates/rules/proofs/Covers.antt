@@ -1,4 +1,4 @@
--- A covered tag: it is never lost, a message with room covers its tag, and a read answers no tag below it.
+-- A covered tag: it is never lost, a message with room covers its tag, and a read of it gets it, marked 1, or a greater one, marked 0.
 use mathlib.Core.Path.{_≡_, refl, sym, subst}
 use mathlib.Core.Bool.{Bool, true, false, not, _&&_}
 use mathlib.Core.Logic.{_⊎_, inl, inr, ⊎-elim}
@@ -8,7 +8,7 @@ use native.Mathlib.Omega.{arith}
 use lib.Dec.{T, eqb, eqb→eq, T-not, not-T}
 use Rattle.sets.specs.Plain.{if_then_else_, oneOf}
 use Rattle.sets.specs.declared.Tag.{Tag}
-use Rattle.sets.proofs.Tests.{not-not, and-intro, or-elim, not-both, if-ind}
+use Rattle.sets.proofs.Tests.{not-not, and-intro, or-elim, not-both}
 use Rattle.sets.proofs.TagOrder.{_≼_, _≺_, ≼-refl, ≺→≼, ≺-≼}
 use Rattle.tables.specs.declared.Entry.{Entry}
 use Rattle.tables.specs.declared.Message.{Message}
@@ -16,7 +16,7 @@ use Rattle.tables.specs.Rows.{some?, putFirst}
 use Rattle.tables.specs.Tables.{isFree, isSecured, hasTag}
 use Rattle.tables.proofs.All.{All, none, cons, all-map}
 use Rattle.tables.proofs.Lists.{put-some, Each, ends, next}
-use Rattle.rules.specs.Replica.{entry, there, entryWith, highest, read, tidied, replicaAfter, isFull}
+use Rattle.rules.specs.Replica.{entry, there, entryWith, highest, read, mark, tidied, replicaAfter, isFull}
 use Rattle.rules.proofs.Highest.{highest-of}
 use Rattle.rules.proofs.Changes.{some-first, some-later, has-tag, tag-has, Kept, wasFree, stays, madeSecure, dropped, Grows, free-not-secured, highest-grows, secure-kept, tidied-grows, After, holds, writes, secures, confirms, hears, other, after, after-grows}
 
@@ -99,6 +99,20 @@ all-there (e ∷ es) =
     cons (λ s. some-first (hasTag (e .tag)) e es (has-tag (e .tag) e (not-T (isFree e) (λ f. free-not-secured e f s)) refl))
     (all-map (λ a f s. some-later (hasTag (a .tag)) e es (f s)) (all-there es))
 
+-- what a read got, by its mark: the tag asked for, or a greater one
+pub data Copied (asked got : Tag) : ℕ → Type 0 where
+  itself : got ≡ asked → Copied asked got 1
+  higher : asked ≺ got → Copied asked got 0
+
+pub copied-reaches : {asked got : Tag} {n : ℕ} → Copied asked got n → asked ≼ got
+copied-reaches {asked} (itself e) = subst (λ (t : Tag). asked ≼ t) (sym e) (≼-refl asked)
+copied-reaches (higher l) = ≺→≼ l
+
+-- two choices by one test
+if-by : {A B : Type 0} (P : A → B → Type 0) (b : Bool) {x y : A} {u v : B} → (T b → P x u) → (T (not b) → P y v) → P (if b then x else y) (if b then u else v)
+if-by P true f g = f tt
+if-by P false f g = g tt
+
 module _ (es : List Entry) (s : T (some? isSecured es)) where
   -- the highest secured tag has an entry
   pub highest-there : T (there (highest es) es)
@@ -109,17 +123,17 @@ module _ (es : List Entry) (s : T (some? isSecured es)) where
 
   module _ (t : Tag) where
     -- the tag asked for, or the highest secured tag
-    read-ind : (P : Tag → Type 0) → (T (there t es) → P t) → (T (not (there t es)) → P (highest es)) → P (read t es .tag)
-    unfolding read
+    read-ind : (P : Tag → ℕ → Type 0) → (T (there t es) → P t 1) → (T (not (there t es)) → P (highest es) 0) → P (read t es .tag) (mark t es)
+    unfolding read mark
     read-ind P f g =
-        if-ind (λ (r : Entry). P (r .tag)) (there t es)
-        (λ h. subst P (sym (tag-has t (entryWith t es) (entryWith-has t es h) .1)) (f h)) (λ n. subst P (sym highest-tag) (g n))
+        if-by (λ (r : Entry) (n : ℕ). P (r .tag) n) (there t es)
+        (λ h. subst (λ (u : Tag). P u 1) (sym (tag-has t (entryWith t es) (entryWith-has t es h) .1)) (f h)) (λ n. subst (λ (u : Tag). P u 0) (sym highest-tag) (g n))
 
-    -- a read answers no tag below one that is covered
-    pub read-reaches : Covers es t → t ≼ read t es .tag
-    read-reaches (held h) = read-ind (λ (r : Tag). t ≼ r) (λ _. ≼-refl t) (λ n. absurd (T-not (there t es) n h))
-    read-reaches (beyond l) = read-ind (λ (r : Tag). t ≼ r) (λ _. ≼-refl t) (λ _. ≺→≼ l)
+    -- a read of a covered tag
+    pub read-copies : Covers es t → Copied t (read t es .tag) (mark t es)
+    read-copies (held h) = read-ind (Copied t) (λ _. itself refl) (λ n. absurd (T-not (there t es) n h))
+    read-copies (beyond l) = read-ind (Copied t) (λ _. itself refl) (λ _. higher l)
 
     -- what holds of the tag asked for and of every secured tag holds of the answer
     pub read-of : (K : Tag → Type 0) → K t → All (λ e. T (isSecured e) → K (e .tag)) es → K (read t es .tag)
-    read-of K k ks = read-ind K (λ _. k) (λ _. highest-of K ks s)
+    read-of K k ks = read-ind (λ u _. K u) (λ _. k) (λ _. highest-of K ks s)

@@ -50,7 +50,7 @@ pub data View (k : Conf) (own : ℕ) (w : Client) (x : Message) : Outcome → Ty
   v-waits : Timely w x → T (not (enoughFor k (w .phase) (heard w x .answered))) → View k own w x Waiting
   v-1 : Completes k w x 1 → View k own w x (Next (heard w x .tag))
   v-2 : Completes k w x 2 → View k own w x (Next (heard w x .tag))
-  v-3 : Completes k w x 3 → View k own w x (ReadEnded (x .tag))
+  v-3 : Completes k w x 3 → View k own w x (ReadEnded (x .tag) (x .set))
   v-4 : Completes k w x 4 → heard w x .tag .number < k .top → View k own w x (Next (tag (heard w x .tag .number + 1) own))
   v-spent : Completes k w x 4 → k .top ≤ heard w x .tag .number → View k own w x Spent
   v-5 : Completes k w x 5 → View k own w x (Next (heard w x .tag))
@@ -107,7 +107,7 @@ next-room k own w x t full = go (view k own w x full)
     go (v-waits _ _) e = never Waiting (λ e. cc) e
     go (v-1 c) e = room 1 c (omega arith)
     go (v-2 c) e = room 2 c (omega arith)
-    go (v-3 _) e = never (ReadEnded (x .tag)) (λ e. cc) e
+    go (v-3 _) e = never (ReadEnded (x .tag) (x .set)) (λ e. cc) e
     go (v-4 c _) e = room 4 c (omega arith)
     go (v-spent _ _) e = never Spent (λ e. cc) e
     go (v-5 c) e = room 5 c (omega arith)

@@ -1,4 +1,4 @@
--- "Bench examples": the twelve, of the definitions, as one table under one theorem.
+-- "Bench examples": the twelve, of the definitions, as one table under one theorem; a read with its mark.
 use mathlib.Core.Path.{_≡_, refl}
 use mathlib.Core.List.{List, [], _∷_}
 use Prim.Native.Nat.{ℕ}
@@ -17,7 +17,7 @@ use Rattle.rules.specs.declared.Outcome.{Outcome}
 use Rattle.rules.specs.declared.Outcome.the-variants.{Next, Spent}
 use Rattle.rules.specs.Quorums.{enoughToRead}
 use Rattle.rules.specs.Directory.{directoryAfter, reply, directoryPost}
-use Rattle.rules.specs.Replica.{entry, entryWith, higherOf, highest, read, tidied}
+use Rattle.rules.specs.Replica.{entry, entryWith, higherOf, highest, read, mark, tidied}
 use Rattle.rules.specs.Client.{awaited, enoughFor, isStale, heard, chosen, turned, outcome}
 
 -- ---- the words of the table
@@ -56,6 +56,10 @@ held n c = entry 1 (tag n c) noPage
 abbrev pub secured : ℕ → ℕ → Entry
 secured n c = entry 2 (tag n c) noPage
 
+-- the tag that a read of t gets, and its mark
+abbrev pub gets : Tag → List Entry → Tag × ℕ
+gets t es = (read t es .tag, mark t es)
+
 -- client 1 in its phase 4 gets the only reply that it waits for
 abbrev pub hears : (top greatest : ℕ) → Outcome
 hears top n =
@@ -82,8 +86,8 @@ table =
     ∷ line 5 (takes (wwrite (tag 4 1) (3 ∷ []))) (replies D)
     ∷ line 6 (takes (wwrite (tag 4 1) (2 ∷ 3 ∷ []))) (replies (directory (tag 4 1) (2 ∷ 3 ∷ [])))
     ∷ line 7 (takes (notice (tag 4 1) 3)) (silent D)
-    ∷ line 8 (read (tag 2 1) (secured 0 0 ∷ held 2 1 ∷ []) .tag) (tag 2 1)
-    ∷ line 9 (read (tag 1 1) (secured 0 0 ∷ held 2 1 ∷ []) .tag) (tag 0 0)
+    ∷ line 8 (gets (tag 2 1) (secured 0 0 ∷ held 2 1 ∷ [])) (tag 2 1, 1)
+    ∷ line 9 (gets (tag 1 1) (secured 0 0 ∷ held 2 1 ∷ [])) (tag 0 0, 0)
     ∷ line 10 (tidied (secured 0 0 ∷ held 2 1 ∷ held 3 1 ∷ [])) (secured 0 0 ∷ held 2 1 ∷ held 3 1 ∷ [])
     ∷ line 11 (tidied (secured 0 0 ∷ secured 2 1 ∷ held 1 2 ∷ [])) (noEntry ∷ secured 2 1 ∷ noEntry ∷ [])
     ∷ line 12 (hears 3 3) Spent
@@ -91,5 +95,5 @@ table =
     ∷ []
 
 pub bench : Hold table
-unfolding against directoryAfter directoryPost entryWith higherOf highest read tidied awaited enoughToRead enoughFor isStale heard chosen turned outcome ones
+unfolding against directoryAfter directoryPost entryWith higherOf highest read mark tidied awaited enoughToRead enoughFor isStale heard chosen turned outcome ones
 bench = (refl, (refl, (refl, (refl, (refl, (refl, (refl, (refl, (refl, (refl, (refl, (refl, (refl, tt)))))))))))))

@@ -74,7 +74,7 @@ chosen top own t = if leb top (t .number) then Spent else Next (tag (t .number +
 -- w has heard the reply x, and enough have answered
 unfoldable pub turned : Conf → ℕ → Client → Message → Outcome
 turned k own w x =
-    if eqb (w .phase) 3 then ReadEnded (x .tag)
+    if eqb (w .phase) 3 then ReadEnded (x .tag) (x .set)
     else if eqb (w .phase) 4 then chosen (k .top) own (w .tag)
     else if eqb (w .phase) 6 then WriteEnded (w .tag)
     else Next (w .tag)
@@ -116,7 +116,7 @@ unfoldable pub clientAfter : Client → Message → Outcome → Client
 clientAfter w x Stale = w
 clientAfter w x Waiting = heard w x
 clientAfter w x (Next t) = moved (heard w x) t
-clientAfter w x (ReadEnded t) = idle w
+clientAfter w x (ReadEnded t mark) = idle w
 clientAfter w x (WriteEnded t) = idle w
 clientAfter w x Spent = idle w
 
@@ -142,6 +142,6 @@ unfoldable pub clientPost : Conf → ℕ → (w y : Client) → Outcome → Post
 clientPost k own w y Stale = noPost
 clientPost k own w y Waiting = noPost
 clientPost k own w y (Next t) = request k own y
-clientPost k own w y (ReadEnded t) = noPost
+clientPost k own w y (ReadEnded t mark) = noPost
 clientPost k own w y (WriteEnded t) = secures own w
 clientPost k own w y Spent = noPost

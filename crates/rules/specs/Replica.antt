@@ -51,6 +51,10 @@ hearGossip t page es = if there t es then secure t es else putFirst isFree (entr
 unfoldable pub read : Tag → List Entry → Entry
 read t es = if there t es then entryWith t es else entryWith (highest es) es
 
+-- "1 for the exact tag and 0 for the other"
+unfoldable pub mark : Tag → List Entry → ℕ
+mark t es = if there t es then 1 else 0
+
 -- "frees every entry whose tag is below its highest secured tag"
 abbrev pub freeBelow : Tag → Entry → Entry
 freeBelow t e = if lower (e .tag) t then noEntry else e
@@ -69,7 +73,7 @@ replicaAfter es x =
 unfoldable pub replicaPost : ℕ → List Entry → Message → Post
 replicaPost nd es x =
     let found : Entry = read (x .tag) es in
-    if eqb (x .kind) 9 then post (message 12 (x .receiver) (found .tag) 0 (x .number) (found .page)) (only (x .sender))
+    if eqb (x .kind) 9 then post (message 12 (x .receiver) (found .tag) (mark (x .tag) es) (x .number) (found .page)) (only (x .sender))
     else if eqb (x .kind) 10 then post (message 13 (x .receiver) first 0 (x .number) noPage) (only (x .sender))
     else if eqb (x .kind) 15 then post (message 14 (x .receiver) (x .tag) 0 0 noPage) (all nd)
     else noPost

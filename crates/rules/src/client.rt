@@ -118,7 +118,7 @@ fn choose(top: u32, own: u32, t: Tag) -> Outcome
     Outcome::Next(new)
 }
 
-// Enough have answered: w has heard the reply, whose tag is t.
+// Enough have answered: w has heard the reply, whose tag is t; in phase 3 its set word is a mark.
 fn turn(k: Conf, own: u32, w: Client, x: Message) -> Outcome
     ensures { λ r. ⌜ r ≡ turned k own w x ⌝ }
 {
@@ -126,7 +126,7 @@ fn turn(k: Conf, own: u32, w: Client, x: Message) -> Outcome
     let mine = w.tag;
     let t = x.tag;
     match phase {
-        3 => Outcome::ReadEnded(t),
+        3 => Outcome::ReadEnded(t, x.set),
         4 => choose(k.top, own, mine),
         6 => Outcome::WriteEnded(mine),
         _ => Outcome::Next(mine),

@@ -13,7 +13,7 @@ pub mod answers; // answers.rt: codes and values
 pub enum Outcome {
     Waiting,
     Next(Tag),
-    ReadEnded(Tag),
+    ReadEnded(Tag, u32), // and the reply's mark
     WriteEnded(Tag),
     Spent,
     Stale,
@@ -24,4 +24,5 @@ pub struct Answer {
     pub code: u32,
     pub client: u32,
     pub tag: Tag,
+    pub mark: u32, // 1 where a read got the very tag that it had asked for
 }

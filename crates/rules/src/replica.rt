@@ -6,7 +6,7 @@ ghost use Rattle.tables.specs.Rows.{putFirst};
 ghost use Rattle.tables.specs.Tables.{noEntry, isFree};
 ghost use Rattle.tables.specs.Machines.{entriesOf};
 ghost use Rattle.tables.specs.Inner.{withEntries};
-ghost use Rattle.rules.specs.Replica.{highest, higherOf, secure, write, hearGossip, read, replicaAfter, replicaPost, isFull, gossipPost};
+ghost use Rattle.rules.specs.Replica.{highest, higherOf, secure, write, hearGossip, read, mark, replicaAfter, replicaPost, isFull, gossipPost};
 ghost use Rattle.rules.specs.Inner.{Sender, ReplicaAble};
 use mail::Post;
 use mail::posts;
@@ -61,18 +61,30 @@ fn entry_in(l: &[u32], j: usize) -> Entry
     blank::no_entry()
 }
 
+// What a read finds: an entry, and the mark that says which one.
+pub struct Found {
+    pub entry: Entry,
+    pub mark: u32,
+}
+
 // Kind 9: the entry of the tag, or else the highest secured one.
-pub fn read_in(l: &[u32], t: Tag) -> Entry
+pub fn read_in(l: &[u32], t: Tag) -> Found
     requires { ⌜ 240 ≤ length (now l) ⌝ }
-    ensures { λ r. ⌜ r ≡ read t (entriesOf (now (l .entry))) ⌝ }
+    ensures { λ r. ⌜ r ≡ record { entry = read t (entriesOf (now (l .entry))); mark = mark t (entriesOf (now (l .entry))) } ⌝ }
 {
     let j = search::tag_place(l, t);
     if j < 12 {
-        return entry_in(l, j);
+        return Found {
+            entry: entry_in(l, j),
+            mark: 1,
+        };
     }
     let high = highest_of(l);
     let h = search::tag_place(l, high);
-    entry_in(l, h)
+    Found {
+        entry: entry_in(l, h),
+        mark: 0,
+    }
 }
 
 // Entry j becomes e, where there is one.
@@ -178,13 +190,15 @@ pub fn post(nd: u32, l: &[u32], x: Message) -> Post
     let t = x.tag;
     match kind {
         9 => {
-            let e = read_in(l, t);
-            let found = e.tag;
+            let found = read_in(l, t);
+            let e = found.entry;
+            let copy = e.tag;
             let page = e.page;
             posts::paged(
                 12,
                 x.receiver,
-                found,
+                copy,
+                found.mark,
                 x.number,
                 page,
                 sets::only_of(x.sender),
@@ -206,5 +220,5 @@ pub fn gossip(l: &[u32], from: u32, to: u32) -> Post
     let e = entry_in(l, h);
     let t = e.tag;
     let page = e.page;
-    posts::paged(15, from, t, 0, page, sets::only_of(to))
+    posts::paged(15, from, t, 0, 0, page, sets::only_of(to))
 }

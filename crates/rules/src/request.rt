@@ -73,7 +73,7 @@ pub fn after(w: Client, x: Message, o: Outcome) -> Client
         Outcome::Stale => w,
         Outcome::Waiting => client::hear(w, x),
         Outcome::Next(t) => advance(client::hear(w, x), t),
-        Outcome::ReadEnded(_) => rest(w),
+        Outcome::ReadEnded(_, _) => rest(w),
         Outcome::WriteEnded(_) => rest(w),
         Outcome::Spent => rest(w),
     }
@@ -93,7 +93,7 @@ pub fn request_of(k: Conf, own: u32, w: Client) -> Post
         2 => posts::bare(2, own, t, w.replicas, w.number, directories),
         3 => posts::bare(9, own, t, 0, w.number, w.replicas),
         4 => posts::bare(3, own, FIRST, 0, w.number, directories),
-        5 => posts::paged(10, own, t, w.number, page, sets::all_of(k.replicas)),
+        5 => posts::paged(10, own, t, 0, w.number, page, sets::all_of(k.replicas)),
         6 => posts::bare(4, own, t, w.replicas, w.number, directories),
         _ => posts::nothing(),
     }
@@ -116,7 +116,7 @@ pub fn post(k: Conf, own: u32, w: Client, y: Client, o: Outcome) -> Post
         Outcome::Stale => posts::nothing(),
         Outcome::Waiting => posts::nothing(),
         Outcome::Next(_) => request_of(k, own, y),
-        Outcome::ReadEnded(_) => posts::nothing(),
+        Outcome::ReadEnded(_, _) => posts::nothing(),
         Outcome::WriteEnded(_) => secures_of(own, w),
         Outcome::Spent => posts::nothing(),
     }

@@ -95,7 +95,7 @@ unfolding clientAfter
 client-higher w x Stale = omega arith
 client-higher w x Waiting = omega (arith, heard-keeps w x .number)
 client-higher w x (Next t) = omega (arith, heard-keeps w x .number)
-client-higher w x (ReadEnded t) = omega arith
+client-higher w x (ReadEnded t n) = omega arith
 client-higher w x (WriteEnded t) = omega arith
 client-higher w x Spent = omega arith
 

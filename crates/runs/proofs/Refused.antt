@@ -36,7 +36,7 @@ module _ (own : ℕ) (x : Message) (page : Page) where
   outcome-code : (o : Outcome) → T (oneOf (answerOf own o .code) acceptedCodes)
   outcome-code Waiting = tt
   outcome-code (Next t) = tt
-  outcome-code (ReadEnded t) = tt
+  outcome-code (ReadEnded t n) = tt
   outcome-code (WriteEnded t) = tt
   outcome-code Spent = tt
   outcome-code Stale = tt
@@ -44,7 +44,7 @@ module _ (own : ℕ) (x : Message) (page : Page) where
   outcome-page : (o : Outcome) → (answerOf own o .code ≡ 1 → ⊥) → filled o x page ≡ page
   outcome-page Waiting n = refl
   outcome-page (Next t) n = refl
-  outcome-page (ReadEnded t) n = absurd (n refl)
+  outcome-page (ReadEnded t mark) n = absurd (n refl)
   outcome-page (WriteEnded t) n = refl
   outcome-page Spent n = refl
   outcome-page Stale n = refl

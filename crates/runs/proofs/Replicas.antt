@@ -6,7 +6,8 @@ use Prim.Native.Nat.{ℕ, _≤_}
 use native.Mathlib.Omega.{arith}
 use borrow.Author.Tests.{le-leb, ne-eqb}
 use lib.Dec.{T, not-T}
-use Rattle.sets.proofs.Tests.{T-true, true-T, T-false, passes-by}
+use Rattle.sets.specs.declared.Tag.{Tag}
+use Rattle.sets.proofs.Tests.{T-true, true-T, T-false, passes-by, if-ind}
 use Rattle.tables.specs.declared.Conf.{Conf}
 use Rattle.tables.specs.declared.Entry.{Entry}
 use Rattle.tables.specs.declared.Message.{Message}
@@ -17,17 +18,17 @@ use Rattle.tables.specs.Tables.{Replica, noPage, noEntry, isFree, isSecured, ha
 use Rattle.tables.specs.Words.{entryWords}
 use Rattle.tables.proofs.All.{All, all-map}
 use Rattle.tables.proofs.Whole.{Paged, Stocked, blank-entry}
-use Rattle.inspect.specs.Good.{zeros, goodTag, eachRow, isParty, goodEntry, tagsOnce, goodReplica, replicaRow}
+use Rattle.inspect.specs.Good.{zeros, goodTag, goodMark, eachRow, isParty, goodEntry, tagsOnce, goodReplica, replicaRow}
 use Rattle.inspect.proofs.Facts.{TagFacts, EntryFacts, MessageFacts, entry-facts, replica-facts}
 use Rattle.inspect.proofs.Made.{entry-made}
-use Rattle.rules.specs.Replica.{entry, entryWith, highest, secured, read, tidied, replicaAfter, replicaPost, gossipPost}
+use Rattle.rules.specs.Replica.{entry, entryWith, highest, secured, there, read, mark, tidied, replicaAfter, replicaPost, gossipPost}
 use Rattle.rules.proofs.Stock.{Stock}
 use Rattle.rules.proofs.Highest.{highest-of}
 use Rattle.rules.proofs.Changes.{free-not-secured, tag-has}
 use Rattle.rules.proofs.Covers.{highest-tag, read-of}
 use Rattle.rules.proofs.Every.{all-after, all-tidied, all-entryWith, all-read, stock-after, stock-tidied, some-after, some-tidied}
 use Rattle.runs.proofs.Sound.{each-in, each-out, Sends}
-use Rattle.runs.proofs.Sent.{good-tag, sends-all, sends-one, sends-none, sends-by}
+use Rattle.runs.proofs.Sent.{in-use, good-tag, sends-all, sends-one, sends-none, sends-by}
 use Rattle.runs.proofs.Once.{once-after, once-tidied}
 
 -- what a good replica has
@@ -65,6 +66,10 @@ replica-fits k p r h d s = (
 no-entry : (k : Conf) → goodEntry k noEntry ≡ true
 unfolding goodEntry entryWords noEntry noPage zeros
 no-entry k = refl
+
+is-mark : (t : Tag) (es : List Entry) → goodMark (mark t es) ≡ true
+unfolding mark
+is-mark t es = if-ind (λ (n : ℕ). goodMark n ≡ true) (there t es) (λ _. refl) (λ _. refl)
 
 module _ (k : Conf) {es : List Entry} (s : Stores k es) where
   -- an entry in use
@@ -122,7 +127,7 @@ module _ (k : Conf) {es : List Entry} (s : Stores k es) where
     pub replica-sends : Sends k (replicaPost (k .directories) es x)
     unfolding replicaPost senderOf receiverOf zeros noPage
     replica-sends =
-        sends-by k x g 9 (λ c. sends-one k (record { rest = refl; sender = c .receiver; tag = read-tag; set = refl; number = c .number; page = all-read {P = λ e. Paged (e .page)} (x .tag) blank-entry (s .stock .pages) }) (x .sender) (c .sender))
+        sends-by k x g 9 (λ c. sends-one k (record { rest = refl; sender = c .receiver; tag = read-tag; set = in-use (goodMark (mark (x .tag) es)) (is-mark (x .tag) es); number = c .number; page = all-read {P = λ e. Paged (e .page)} (x .tag) blank-entry (s .stock .pages) }) (x .sender) (c .sender))
         (sends-by k x g 10 (λ c. sends-one k (record { rest = refl; sender = c .receiver; tag = refl; set = refl; number = c .number; page = refl }) (x .sender) (c .sender))
         (sends-by k x g 15 (λ c. sends-all k (record { rest = refl; sender = c .receiver; tag = good-tag k (x .tag) (g .tag); set = refl; number = refl; page = refl }))
         (sends-none k)))

@@ -11,9 +11,9 @@ use Rattle.sets.proofs.Laws.{none-in, only-in, all-lt, in-range}
 use Rattle.sets.proofs.Tests.{true-T, T-true, and-elim, if-ind}
 use Rattle.tables.specs.declared.Conf.{Conf}
 use Rattle.tables.specs.declared.Message.{Message}
-use Rattle.tables.specs.Kinds.{senderOf, receiverOf, manyOf, carriesSet, carriesTag, carriesPage, carriesNumber}
+use Rattle.tables.specs.Kinds.{senderOf, receiverOf, manyOf, carriesTag, carriesPage, carriesNumber}
 use Rattle.tables.proofs.Whole.{Paged, blank-message}
-use Rattle.inspect.specs.Good.{between, zeros, field, goodTag, zeroTag, goodSet, isParty, goodMessage}
+use Rattle.inspect.specs.Good.{between, zeros, field, goodTag, zeroTag, goodSetWord, isParty, goodMessage}
 use Rattle.inspect.proofs.Facts.{TagFacts, MessageFacts}
 use Rattle.inspect.proofs.Made.{tag-made}
 use Rattle.mail.specs.declared.Post.{Post}
@@ -57,7 +57,7 @@ pub record Carries (k : Conf) (x : Message) : Type 0 where
   pub rest : leb (x .kind) 15 && eqb (x .spare) 0 && (carriesPage (x .kind) || zeros (x .page)) ≡ true
   pub sender : isParty k (senderOf (x .kind)) (x .sender) ≡ true
   pub tag : field (carriesTag (x .kind)) (goodTag k (x .tag)) (zeroTag (x .tag)) ≡ true
-  pub set : field (carriesSet (x .kind)) (goodSet (k .replicas) (x .set)) (eqb (x .set) 0) ≡ true
+  pub set : goodSetWord k (x .kind) (x .set) ≡ true
   pub number : field (carriesNumber (x .kind)) (between 1 (k .top) (x .number)) (eqb (x .number) 0) ≡ true
   pub page : Paged (x .page)
 

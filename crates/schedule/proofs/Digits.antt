@@ -87,10 +87,10 @@ module _ (old : List ℕ) (at : ℕ) (v : List ℕ) where
       record { low = p .low; high = omega arith; text = p .text ∙ rw (take-all i v k) }
 
 -- an answer
-module _ (old mid end : List ℕ) (at a b : ℕ) (line code client number owner word shown : ℕ) where
+module _ (old mid end : List ℕ) (at a b : ℕ) (line code client number owner word shown mark : ℕ) where
   pub answered : (new : List ℕ) (r : ℕ) → shown ≡ wordShown code word → Printed 20 old at (decimal line) mid a
-      → Printed 105 mid a (fieldsText (code ∷ client ∷ number ∷ owner ∷ shown ∷ [])) end b → Printed 1 end b (10 ∷ []) new r
-      → Printed 126 old at (answerText line code client number owner word) new r
+      → Printed 126 mid a (fieldsText (code ∷ client ∷ number ∷ owner ∷ shown ∷ mark ∷ [])) end b → Printed 1 end b (10 ∷ []) new r
+      → Printed 147 old at (answerText line code client number owner word mark) new r
   unfolding answerText
   answered new r e p q s =
-      rw (← e) (then 20 106 old mid new at a r _ _ p (then 105 1 mid end new a b r _ _ q s))
+      rw (← e) (then 20 127 old mid new at a r _ _ p (then 126 1 mid end new a b r _ _ q s))

@@ -37,12 +37,12 @@ pub input-refused :
 unfolding numbersOf pick pickAll saidBy commandOf commandsFrom
 input-refused = refl
 
--- `15 1 1 1 1 9`
-pub read-ended : answerText 15 1 1 1 1 9 ≡ 49 ∷ 53 ∷ 32 ∷ 49 ∷ 32 ∷ 49 ∷ 32 ∷ 49 ∷ 32 ∷ 49 ∷ 32 ∷ 57 ∷ 10 ∷ []
+-- `15 1 1 1 1 9 1`
+pub read-ended : answerText 15 1 1 1 1 9 1 ≡ 49 ∷ 53 ∷ 32 ∷ 49 ∷ 32 ∷ 49 ∷ 32 ∷ 49 ∷ 32 ∷ 49 ∷ 32 ∷ 57 ∷ 32 ∷ 49 ∷ 10 ∷ []
 unfolding decimalIn decimal fieldsText answerText
 read-ended = refl
 
--- `16 21 0 0 0 0`, whatever the page word is
-pub worn : answerText 16 21 0 0 0 9 ≡ 49 ∷ 54 ∷ 32 ∷ 50 ∷ 49 ∷ 32 ∷ 48 ∷ 32 ∷ 48 ∷ 32 ∷ 48 ∷ 32 ∷ 48 ∷ 10 ∷ []
+-- `16 21 0 0 0 0 0`, whatever the page word is
+pub worn : answerText 16 21 0 0 0 9 0 ≡ 49 ∷ 54 ∷ 32 ∷ 50 ∷ 49 ∷ 32 ∷ 48 ∷ 32 ∷ 48 ∷ 32 ∷ 48 ∷ 32 ∷ 48 ∷ 32 ∷ 48 ∷ 10 ∷ []
 unfolding decimalIn decimal fieldsText answerText
 worn = refl

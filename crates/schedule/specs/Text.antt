@@ -1,7 +1,7 @@
 -- "Lines: `S nc nd nr f rq wq top w`, `R client`, `W client w`, `D slot`, `G from to`, `T replica`, `X kind id` [..] Fields are
 -- decimal, at most 4,294,967,295, one space apart, line end LF [..]. No leading zeros. [..] Each line prints line number, code,
 -- client, tag number, tag client, and the first page word if the code is 1, else 0." And of columns: "The program's set-up line is
--- `C nc nd nr f columns top w`."
+-- `C nc nd nr f columns top w`." And of the mark: "The rehearsal program prints it last on each line."
 use Prim.Native.Nat.{ℕ, zero, suc, _+_, _/_, _%_, _≤_}
 use mathlib.Core.List.{List, [], _∷_, _++_}
 use lib.Dec.{ltb, eqb}
@@ -61,6 +61,6 @@ abbrev pub wordShown : ℕ → ℕ → ℕ
 wordShown code word = if eqb code 1 then word else 0
 
 -- the line that answers a command, with the line end
-unfoldable pub answerText : ℕ → ℕ → ℕ → ℕ → ℕ → ℕ → List ℕ
-answerText line code client number owner word =
-    decimal line ++ (fieldsText (code ∷ client ∷ number ∷ owner ∷ wordShown code word ∷ []) ++ (10 ∷ []))
+unfoldable pub answerText : ℕ → ℕ → ℕ → ℕ → ℕ → ℕ → ℕ → List ℕ
+answerText line code client number owner word mark =
+    decimal line ++ (fieldsText (code ∷ client ∷ number ∷ owner ∷ wordShown code word ∷ mark ∷ []) ++ (10 ∷ []))

@@ -65,7 +65,7 @@ fn shown(code: u32, word: u32) -> u32
     if code == 1 { word } else { 0 }
 }
 
-// Line number, code, client, tag number, tag client and page word, `owner` being the tag's client and `word` the first of the page.
+// Line number, code, client, tag number, tag client, page word and mark, `owner` being the tag's client and `word` the first of the page.
 pub fn put_answer(
     out: &mut [u8],
     at: usize,
@@ -75,11 +75,12 @@ pub fn put_answer(
     number: u32,
     owner: u32,
     word: u32,
+    mark: u32,
 ) -> usize
-    requires { ⌜ at + 126 ≤ length (now out) ⌝ }
-    ensures { λ r. ⌜ Printed 126 (now (out .entry)) at (answerText line code client number owner word) (now (out .exit)) r ⌝ }
+    requires { ⌜ at + 147 ≤ length (now out) ⌝ }
+    ensures { λ r. ⌜ Printed 147 (now (out .entry)) at (answerText line code client number owner word mark) (now (out .exit)) r ⌝ }
 {
-    let v = [code, client, number, owner, shown(code, word)];
+    let v = [code, client, number, owner, shown(code, word), mark];
     let a = put_number(out, at, line);
     let b = put_fields(out, a, &v);
     put_byte(out, b, 10)
@@ -87,8 +88,8 @@ pub fn put_answer(
 
 // The answer to a malformed line.
 pub fn put_malformed(out: &mut [u8], at: usize, line: u64) -> usize
-    requires { ⌜ at + 126 ≤ length (now out) ⌝ }
-    ensures { λ r. ⌜ Printed 126 (now (out .entry)) at (answerText line 18 0 0 0 0) (now (out .exit)) r ⌝ }
+    requires { ⌜ at + 147 ≤ length (now out) ⌝ }
+    ensures { λ r. ⌜ Printed 147 (now (out .entry)) at (answerText line 18 0 0 0 0 0) (now (out .exit)) r ⌝ }
 {
-    put_answer(out, at, line, 18, 0, 0, 0, 0)
+    put_answer(out, at, line, 18, 0, 0, 0, 0, 0)
 }

@@ -1,5 +1,5 @@
 -- "Kinds" and "Carried fields": who sends and who receives a message of each kind, and what it carries.
-use Rattle.sets.specs.Plain.{Bool, not, ℕ, ltb, [], _∷_, if_then_else_, oneOf}
+use Rattle.sets.specs.Plain.{Bool, not, ℕ, ltb, eqb, [], _∷_, if_then_else_, oneOf}
 use Rattle.tables.specs.declared.Conf.{Conf}
 use Rattle.tables.specs.declared.Party.{Party}
 use Rattle.tables.specs.declared.Party.the-variants.{Nobody, AClient, ADirectory, AReplica}
@@ -35,6 +35,10 @@ manyOf k AReplica = k .replicas
 
 abbrev pub carriesSet : ℕ → Bool
 carriesSet k = oneOf k (2 ∷ 4 ∷ 5 ∷ [])
+
+-- the set word of 12 is a mark: "1 for the exact tag and 0 for the other"
+abbrev pub carriesMark : ℕ → Bool
+carriesMark k = eqb k 12
 
 abbrev pub carriesTag : ℕ → Bool
 carriesTag k = oneOf k (2 ∷ 4 ∷ 5 ∷ 7 ∷ 9 ∷ 10 ∷ 11 ∷ 12 ∷ 14 ∷ 15 ∷ [])

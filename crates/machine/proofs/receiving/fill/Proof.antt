@@ -17,9 +17,9 @@ use Rattle.machine.proofs.receiving.fill.Tie as tie
 page-wide : (s : tie.Start) → length (s .args .x .page) ≡ 16
 page-wide s = search needs
 
-read-ends : (x : Message) (o : Outcome) (t : Tag) (p l : List ℕ) → o ≡ ReadEnded t → length p ≡ 16 → length (x .page) ≡ 16 → l ≡ put p 0 (x .page)
+read-ends : (x : Message) (o : Outcome) (t : Tag) (n : ℕ) (p l : List ℕ) → o ≡ ReadEnded t n → length p ≡ 16 → length (x .page) ≡ 16 → l ≡ put p 0 (x .page)
     → l ≡ filled o x p
-read-ends x o t p l e a b h = rw e (h ∙ put-all p (x .page) (a ∙ sym b))
+read-ends x o t n p l e a b h = rw e (h ∙ put-all p (x .page) (a ∙ sym b))
 
 copy-in-requires : tie.Need-copy-in-requires
 copy-in-requires c κs = omega (arith, page-wide (c .before .before .before .before .before .before))

@@ -6,6 +6,7 @@ use Rattle.rules.proofs.answers.answer_of.Tie as tie
 pub answer-of-spec : {M : Type 1} → statement M
 answer-of-spec =
     tie.close
-    (tie.spec (λ c. search needs) (λ c κs. search needs) (λ c. search needs)
-    (λ c κs. search needs) (λ c. search needs) (λ c. search needs) (λ c. search needs) (λ c. search needs)
-    (λ c κs. search needs) (λ c. search answer-by) (λ c. search answer-by) (λ c. search answer-by) (λ c. search answer-by) (λ c. search answer-by) (λ c. search answer-by))
+    (tie.spec (λ c. search needs) (λ c κs. search needs) (λ c. search needs) (λ c κs. search needs)
+    (λ c. search needs) (λ c κs. search needs) (λ c. search needs) (λ c κs. search needs)
+    (λ c. search needs) (λ c κs. search needs) (λ c. search needs) (λ c κs. search needs)
+    (λ c. search answer-by) (λ c. search answer-by) (λ c. search answer-by) (λ c. search answer-by) (λ c. search answer-by) (λ c. search answer-by))

@@ -10,16 +10,17 @@ use Rattle.tables.specs.declared.Message.{Message}
 use Rattle.tables.specs.Tables.{noPage}
 use Rattle.mail.specs.declared.Post.{Post}
 use Rattle.mail.specs.Posts.{message, post, noPost}
-use Rattle.rules.specs.Replica.{read, replicaPost}
+use Rattle.rules.specs.declared.replica.Found.{Found}
+use Rattle.rules.specs.Replica.{read, mark, replicaPost}
 use Rattle.rules.proofs.Cases.{at}
 use Rattle.rules.proofs.replica.post.Statement.{statement}
 use Rattle.rules.proofs.replica.post.Tie as tie
 
 module _ (nd : ℕ) (es : List Entry) (x : Message) (r : Post) (s : ℕ) where
-  answers : (e : Entry) → x .kind ≡ 9 → e ≡ read (x .tag) es → s ≡ only (x .sender)
-      → r ≡ post (message 12 (x .receiver) (e .tag) 0 (x .number) (e .page)) s → r ≡ replicaPost nd es x
+  answers : (e : Found) → x .kind ≡ 9 → e ≡ record { entry = read (x .tag) es; mark = mark (x .tag) es } → s ≡ only (x .sender)
+      → r ≡ post (message 12 (x .receiver) (e .entry .tag) (e .mark) (x .number) (e .entry .page)) s → r ≡ replicaPost nd es x
   unfolding replicaPost
-  answers e k f g q = simp (at k, ← f, ← g) q
+  answers e k f g q = simp (at k, ← g) (rw f at q)
 
   writes : x .kind ≡ 10 → s ≡ only (x .sender) → r ≡ post (message 13 (x .receiver) first 0 (x .number) noPage) s → r ≡ replicaPost nd es x
   unfolding replicaPost
