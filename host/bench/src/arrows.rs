@@ -5,7 +5,8 @@ use crate::names::kind_name;
 use crate::rows::{fitting, moment, Piece, Point};
 use crate::story::ends_of;
 use crate::underway::{Arrow, Fate};
-use copy::layout::Party;
+use crate::words;
+use copy::layout::{bit, Party};
 
 /// How far a lost message is drawn towards its receiver.
 const LOST_AT: f64 = 0.8;
@@ -18,6 +19,7 @@ impl Picture<'_> {
             let group =
                 format!(r#"class="message" data-sent="{sent}" data-until="{until}" data-fate="{}""#, name(*fate));
             self.svg.open(&group);
+            self.svg.title(&words::sent(&arrow.message, bit(arrow.message.to)));
             self.arrow(arrow);
             self.svg.close();
         }

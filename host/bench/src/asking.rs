@@ -1,6 +1,7 @@
 //! What a command was asked, and whether it was asked rightly.
 
 use bench::names;
+use copy::answer::{EXACT, NEWER};
 
 /// Why a command did not do what was asked: it was asked wrongly, or it failed.
 pub enum Trouble {
@@ -39,6 +40,10 @@ pub fn lines(text: &str) -> Result<usize, Trouble> {
 
 pub fn seed(text: &str) -> Result<u64, Trouble> {
     number("SEED", text, 0, u64::MAX)
+}
+
+pub fn any_mark(text: &str) -> Result<u32, Trouble> {
+    number("MARK", text, NEWER.into(), EXACT.into()).map(|mark| mark as u32)
 }
 
 pub fn listed_code(text: &str) -> Result<u32, Trouble> {

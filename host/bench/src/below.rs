@@ -1,14 +1,18 @@
 //! What stands under a picture: the line of operations of each machine, and the refused lines.
 
-use crate::draw::{bar_text, Picture, PLAIN_TEXT, READ_FILL, WRITE_FILL};
+use crate::draw::{bar_text, explained, Picture, PLAIN_TEXT, READ_FILL, WRITE_FILL};
 use crate::history::{History, Kind, Operation};
 use crate::names;
 use crate::order;
 use crate::rows::{text_width, WIDTH};
 use crate::story::Machine;
+use crate::svg::Svg;
+use copy::answer::NEWER;
 
 const MARGIN: f64 = 12.0;
 const BOX: (f64, f64) = (104.0, 40.0);
+/// Where a line below the last one in a box would stand.
+const LINES: f64 = 48.0;
 const BOX_STEP: (f64, f64) = (118.0, 50.0);
 const BOXES: usize = ((WIDTH - 2.0 * MARGIN) / BOX_STEP.0) as usize;
 const CENTRE_TEXT: &str = r##"fill="#222" text-anchor="middle""##;
@@ -54,24 +58,15 @@ impl Picture<'_> {
     /// The first page and then each operation, left to right.
     fn boxes(&mut self, history: &History, line: &[Operation], y: f64) -> f64 {
         let white = r##"fill="#fff" stroke="#888""##;
-        self.single(0, y, white, "first page", &history.first_word.to_string());
+        single(&mut self.svg, 0, y, white, &["first page".to_string(), history.first_word.to_string()]);
         for (index, operation) in line.iter().enumerate() {
             let fill = if operation.kind == Kind::Write { WRITE_FILL } else { READ_FILL };
-            self.single(index + 1, y, fill, &bar_text(operation), &box_text(operation));
+            let newer = self.story.newer(operation);
+            let mut lines = vec![bar_text(operation), box_text(operation)];
+            lines.extend(newer.map(|_| names::mark(NEWER).to_string()));
+            explained(&mut self.svg, newer, |svg| single(svg, index + 1, y, fill, &lines));
         }
         y + (line.len() / BOXES + 1) as f64 * BOX_STEP.1
-    }
-
-    fn single(&mut self, index: usize, top: f64, fill: &str, name: &str, below: &str) {
-        let x = MARGIN + (index % BOXES) as f64 * BOX_STEP.0;
-        let y = top + (index / BOXES) as f64 * BOX_STEP.1;
-        let centre = (x + BOX.0 / 2.0, y + BOX.1 / 2.0);
-        self.svg.rect(x, y, BOX.0, BOX.1, &format!(r#"{fill} rx="4""#));
-        self.svg.text((centre.0, y + 16.0), 11.0, CENTRE_TEXT, name);
-        self.svg.text((centre.0, y + 32.0), 10.5, CENTRE_TEXT, below);
-        if !index.is_multiple_of(BOXES) {
-            self.svg.line((x - 13.0, centre.1), (x - 1.0, centre.1), r##"stroke="#555""##);
-        }
     }
 
     /// In as many columns as the longest entry lets fit, read across.
@@ -89,6 +84,21 @@ impl Picture<'_> {
             self.svg.text(at, LIST_SIZE, LIST_TEXT, text);
         }
         y + 40.0 + texts.len().div_ceil(across) as f64 * LIST_STEP
+    }
+}
+
+/// One box, with two lines in it or three.
+fn single(svg: &mut Svg, index: usize, top: f64, fill: &str, lines: &[String]) {
+    let x = MARGIN + (index % BOXES) as f64 * BOX_STEP.0;
+    let y = top + (index / BOXES) as f64 * BOX_STEP.1;
+    let centre = (x + BOX.0 / 2.0, y + BOX.1 / 2.0);
+    svg.rect(x, y, BOX.0, BOX.1, &format!(r#"{fill} rx="4""#));
+    for (at, (line, size)) in (1..).zip(lines.iter().zip([11.0, 10.5, 9.5])) {
+        let below = f64::from(at) * LINES / (lines.len() + 1) as f64;
+        svg.text((centre.0, y + below), size, CENTRE_TEXT, line);
+    }
+    if !index.is_multiple_of(BOXES) {
+        svg.line((x - 13.0, centre.1), (x - 1.0, centre.1), r##"stroke="#555""##);
     }
 }
 

@@ -1,6 +1,6 @@
 //! The commands: what each takes, what it says of itself, and what it does.
 
-use crate::asking::{exactly, lines, listed_code, misuse, number, seed, Done};
+use crate::asking::{any_mark, exactly, lines, listed_code, misuse, number, seed, Done};
 use crate::saying::{note, print, print_all, rewrite};
 use bench::compare::{compare_one, copy_output};
 use bench::files::{open, read, write};
@@ -24,7 +24,7 @@ const COMMANDS: [Command; 12] = [
     Command { name: "run", arguments: "FILE", what: "prints the proved program's answers to a schedule", run: run_proved },
     Command { name: "rehearse", arguments: "FILE", what: "prints the copy's answers to a schedule", run: rehearse },
     Command { name: "compare", arguments: "FILE", what: "compares the two on a schedule: equal, or the first line that differs", run: compare },
-    Command { name: "shrink", arguments: "FILE [--code CODE]", what: "prints the smallest schedule found that still differs, or still has the code", run: shrink_file },
+    Command { name: "shrink", arguments: "FILE [--code CODE | --mark MARK]", what: "prints the smallest schedule found that still differs, or still has the code or a read with the mark", run: shrink_file },
     Command { name: "check", arguments: "FILE ANSWERS", what: "checks any program's answers and sets the operations in one line", run: check },
     Command { name: "tell", arguments: "FILE [LINE]", what: "tells a schedule in words, or the whole machine after a line", run: tell_file },
     Command { name: "draw", arguments: "FILE OUT", what: "draws a schedule: OUT.svg is a picture, OUT.html a page to step through", run: draw_file },
@@ -91,15 +91,20 @@ fn compare(words: &[&str]) -> Done {
 }
 
 fn shrink_file(words: &[&str]) -> Done {
-    let (file, code) = match words {
-        [file, "--code", code] | ["--code", code, file] => (file, Some(listed_code(code)?)),
-        [file] if *file != "--code" => (file, None),
-        _ => return misuse("FILE is wanted, and nothing else but --code CODE"),
-    };
-    let input = read(file)?;
-    let shrunk = match code {
-        Some(code) => shrink::to_code(&input, code)?,
-        None => shrink::to_difference(&external::program()?, &input)?,
+    let shrunk = match words {
+        [file, "--code", code] | ["--code", code, file] => {
+            let code = listed_code(code)?;
+            shrink::to_code(&read(file)?, code)?
+        }
+        [file, "--mark", mark] | ["--mark", mark, file] => {
+            let mark = any_mark(mark)?;
+            shrink::to_mark(&read(file)?, mark)?
+        }
+        [file] if !["--code", "--mark"].contains(file) => {
+            let input = read(file)?;
+            shrink::to_difference(&external::program()?, &input)?
+        }
+        _ => return misuse("FILE is wanted, and nothing else but --code CODE or --mark MARK"),
     };
     print(&shrunk.schedule)?;
     note(&format!("{shrunk}\n"));

@@ -3,13 +3,14 @@
 
 use crate::columns::{party_at, place_of};
 use crate::history::{Kind, Operation};
-use crate::names::party_name;
+use crate::names::{self, party_name};
 use crate::rows::{fitting, moment, Point, Rows, PER_ROW, WIDTH};
 use crate::story::{story, Mark, Story};
 use crate::svg::Svg;
 use crate::underway::Fate;
 use crate::view;
 use crate::words;
+use copy::answer::NEWER;
 use copy::layout::Party;
 use copy::Numbers;
 
@@ -166,12 +167,16 @@ impl<'a> Picture<'a> {
         let (from, to) = (at(operation.start), operation.end.map_or(machine_end, at));
         let fill = if operation.kind == Kind::Write { WRITE_FILL } else { READ_FILL };
         let open = if operation.end.is_none() { OPEN_ENDED } else { "" };
-        let text = bar_text(operation);
-        for piece in self.rows.pieces((from, height), (to, height)) {
-            let (x, y) = piece.from;
-            self.svg.rect(x, y, piece.to.0 - x, BAR, &format!(r#"{fill} {open} rx="4""#));
-            self.svg.text((fitting(x + 5.0, &text, 10.5), y - 3.0), 10.5, PLAIN_TEXT, &text);
-        }
+        let newer = self.story.newer(operation);
+        let text = bar_text(operation) + &newer.map_or(String::new(), |_| format!(", {}", names::mark(NEWER)));
+        let pieces = self.rows.pieces((from, height), (to, height));
+        explained(&mut self.svg, newer, |svg| {
+            for piece in pieces {
+                let (x, y) = piece.from;
+                svg.rect(x, y, piece.to.0 - x, BAR, &format!(r#"{fill} {open} rx="4""#));
+                svg.text((fitting(x + 5.0, &text, 10.5), y - 3.0), 10.5, PLAIN_TEXT, &text);
+            }
+        });
     }
 
     fn marks(&mut self) {
@@ -206,6 +211,15 @@ fn head(story: &Story, column: usize) -> String {
     let call = &story.calls[column];
     let text = if is_set_up(story, column) { "set-up" } else { &call.text };
     format!("{} {text}", call.line)
+}
+
+/// The shapes of an operation: those of a newer read are a group that says what it got.
+pub fn explained(svg: &mut Svg, newer: Option<&str>, shapes: impl FnOnce(&mut Svg)) {
+    let Some(said) = newer else { return shapes(svg) };
+    svg.open(r#"class="newer""#);
+    svg.title(said);
+    shapes(svg);
+    svg.close();
 }
 
 pub fn bar_text(operation: &Operation) -> String {

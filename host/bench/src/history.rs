@@ -3,7 +3,7 @@
 use crate::allowed::called;
 use crate::names;
 pub use crate::printed::Printed;
-use copy::answer::{DONE, READ_ENDED, WRITE_ENDED, WRITE_SPENT};
+use copy::answer::{DONE, NEWER, READ_ENDED, WRITE_ENDED, WRITE_SPENT};
 use copy::line::Call;
 use copy::{Numbers, Tag};
 
@@ -25,6 +25,8 @@ pub struct Operation {
     /// Known from the answer that ended it.
     pub tag: Option<Tag>,
     pub spent: bool,
+    /// A finished read that got a newer page than it asked for.
+    pub newer: bool,
 }
 
 /// All between one accepted set-up and the next.
@@ -88,7 +90,8 @@ impl History {
         if self.open(client).is_some() {
             return Err(format!("client {client} starts while not idle"));
         }
-        self.operations.push(Operation { client, kind, word, start, end: None, tag: None, spent: false });
+        let (end, tag, spent, newer) = (None, None, false, false);
+        self.operations.push(Operation { client, kind, word, start, end, tag, spent, newer });
         Ok(())
     }
 
@@ -106,6 +109,7 @@ impl History {
         operation.spent = answer.code == WRITE_SPENT;
         if answer.code == READ_ENDED {
             operation.word = answer.word;
+            operation.newer = answer.mark == NEWER;
         }
         if answer.code == READ_ENDED || answer.code == WRITE_ENDED {
             operation.tag = Some(answer.tag);

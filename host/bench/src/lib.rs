@@ -6,6 +6,7 @@
 pub mod jam;
 pub mod night;
 pub mod odd;
+pub mod overtaken;
 pub mod prng;
 pub mod profile;
 pub mod schedule;

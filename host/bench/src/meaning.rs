@@ -10,7 +10,7 @@ use copy::layout::*;
 use copy::line::{Call, LONGEST};
 use copy::mail::Message;
 use copy::numbers::within;
-use copy::{Numbers, Shown, Words};
+use copy::{Numbers, Shown, Tag, Words};
 
 /// "21 WORN: client 1 has fewer than three message numbers left".
 pub fn meaning(m: &Words, call: Call, shown: &Shown) -> String {
@@ -65,7 +65,7 @@ fn done(m: &Words, call: Call) -> String {
 fn ended(m: &Words, shown: &Shown) -> String {
     let Answer { code, client, tag: ended, .. } = shown.answer;
     match code {
-        READ_ENDED => format!("the read of client {client} ends with page {}, tag {}", shown.word, tag(ended)),
+        READ_ENDED => read_ended(shown, Client::read(m, client).tag),
         WRITE_ENDED => format!("the write of client {client} ends with tag {}", tag(ended)),
         _ => format!(
             "client {client} has heard the number {}, which is top: its write is not done",
@@ -74,12 +74,18 @@ fn ended(m: &Words, shown: &Shown) -> String {
     }
 }
 
-fn delivered(m: &Words, call: Call, say: impl Fn(&Message) -> String) -> String {
-    let message = match call {
-        Call::Deliver { slot } if within(slot, SLOTS as u32) => view::message(m, slot),
-        _ => None,
+/// `asked` is the tag that the read's client wanted of the replicas.
+pub fn read_ended(shown: &Shown, asked: Tag) -> String {
+    let Answer { client, tag: ended, mark, .. } = shown.answer;
+    let which = match mark {
+        NEWER => format!("newer than the {} that it had asked for", tag(asked)),
+        _ => names::mark(mark).to_string(),
     };
-    message.as_ref().map_or(String::new(), say)
+    format!("the read of client {client} ends with page {}, tag {}, {which}", shown.word, tag(ended))
+}
+
+fn delivered(m: &Words, call: Call, say: impl Fn(&Message) -> String) -> String {
+    view::arriving(m, call).as_ref().map_or(String::new(), say)
 }
 
 fn receiver(message: &Message) -> String {

@@ -115,6 +115,14 @@ pub fn tag(tag: Tag) -> String {
     format!("({},{})", tag.number, tag.client)
 }
 
+/// Whether a read got the tag that it asked for, by the mark of its reply.
+pub fn mark(mark: u32) -> &'static str {
+    match mark {
+        EXACT => "the tag asked for",
+        _ => "newer than asked",
+    }
+}
+
 /// A line of a schedule, short and on one line whatever bytes it has.
 pub fn line_text(line: &[u8]) -> String {
     const MOST: usize = 80;

@@ -192,8 +192,11 @@ pub fn with_room(m: &Words, nr: u32) -> u32 {
 
 /// Replicas that have a tag.
 pub fn with_tag(m: &Words, nr: u32, tag: Tag) -> u32 {
-    let has = |&id: &u32| entries(m, id).any(|row| row[0] != FREE && Tag::new(row[1], row[2]) == tag);
-    (1..=nr).filter(has).map(bit).sum()
+    (1..=nr).filter(|&id| has_tag(m, id, tag)).map(bit).sum()
+}
+
+pub fn has_tag(m: &Words, replica: u32, tag: Tag) -> bool {
+    entries(m, replica).any(|row| row[0] != FREE && Tag::new(row[1], row[2]) == tag)
 }
 
 /// Directories whose answer, still to come, has the number at top. A reply that waits is as

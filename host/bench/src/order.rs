@@ -1,5 +1,6 @@
 //! The line of operations: by tag, each write before the reads that show it.
-//! It holds if it keeps the order in time and every read shows the last write before it.
+//! It holds if it keeps the order in time and every read shows the last write before it; and then
+//! a page can be newer than the one that was asked for only where it became so during the read.
 
 use crate::history::{histories, lines, History, Kind, Operation};
 use crate::names;
@@ -46,6 +47,7 @@ pub fn line_of(history: &History) -> Result<Vec<Operation>, String> {
     line.sort_by_key(|operation| (operation.tag, operation.kind == Kind::Read, operation.start));
     keeps_time(&line)?;
     shows_last_write(&line, history.first_word)?;
+    newer_than_asked(&line)?;
     Ok(line)
 }
 
@@ -115,6 +117,25 @@ fn shows_last_write(line: &[Operation], first_word: u32) -> Result<(), String> {
             Kind::Write => (word, tag) = (operation.word, operation.tag),
             Kind::Read if operation.word == word && operation.tag == tag => (),
             Kind::Read => return Err(format!("{} should show {word}", told(operation))),
+        }
+    }
+    Ok(())
+}
+
+/// A read asks for the tag of all that ended before it began, or a greater one. It gets one still
+/// greater only where that is secured, which no tag is before the end of its write.
+fn newer_than_asked(line: &[Operation]) -> Result<(), String> {
+    for same in line.chunk_by(|a, b| a.tag == b.tag) {
+        let first_ended = same.iter().filter(|operation| operation.end.is_some()).min_by_key(|operation| operation.end);
+        let write = &same[0]; // but for the first tag, which no write has
+        for read in same.iter().filter(|operation| operation.newer) {
+            let why = match first_ended {
+                _ if read.tag == Some(Tag::FIRST) => "no tag is lower".to_string(),
+                Some(other) if other.end < Some(read.start) => format!("{} ended before it started", told(other)),
+                _ if write.end.is_none_or(|end| Some(end) > read.end) => format!("{} had not ended", told(write)),
+                _ => continue,
+            };
+            return Err(format!("{} got a newer tag than it asked for, yet {why}", told(read)));
         }
     }
     Ok(())

@@ -1,7 +1,7 @@
-//! An answer as a program prints it: six numbers, and the code says which of them are filled.
+//! An answer as a program prints it: seven numbers, and the code says which of them are filled.
 
 use crate::names;
-use copy::answer::{READ_ENDED, WRITE_ENDED, WRITE_SPENT};
+use copy::answer::{EXACT, READ_ENDED, WRITE_ENDED, WRITE_SPENT};
 use copy::Tag;
 
 /// One printed line.
@@ -12,6 +12,7 @@ pub struct Printed {
     pub client: u32,
     pub tag: Tag,
     pub word: u32,
+    pub mark: u32,
 }
 
 impl Printed {
@@ -34,19 +35,20 @@ impl Printed {
 
     fn read(text: &[u8]) -> Result<Printed, String> {
         let mut fields = text.split(|&byte| byte == b' ');
-        let mut field = |most| decimal(fields.next().ok_or("fewer than six numbers")?, most);
+        let mut field = |most| decimal(fields.next().ok_or("fewer than seven numbers")?, most);
         let line = field(usize::MAX as u64)? as usize;
         let mut word = || field(u64::from(u32::MAX)).map(|value| value as u32);
-        let (code, client, tag, word) = (word()?, word()?, Tag::new(word()?, word()?), word()?);
+        let (code, client, tag) = (word()?, word()?, Tag::new(word()?, word()?));
+        let (word, mark) = (word()?, word()?);
         match fields.next() {
-            None => Ok(Printed { line, code, client, tag, word }),
-            Some(_) => Err("more than six numbers".to_string()),
+            None => Ok(Printed { line, code, client, tag, word, mark }),
+            Some(_) => Err("more than seven numbers".to_string()),
         }
     }
 
     /// A listed code, and nothing filled that the code leaves at zero.
     fn as_listed(&self) -> Result<(), String> {
-        let Printed { code, client, tag, word, .. } = *self;
+        let Printed { code, client, tag, word, mark, .. } = *self;
         names::code_name(code).ok_or_else(|| names::code(code))?;
         let tagged = code == READ_ENDED || code == WRITE_ENDED;
         let filled = if client != 0 && !tagged && code != WRITE_SPENT {
@@ -55,6 +57,10 @@ impl Printed {
             format!("the tag {}", names::tag(tag))
         } else if word != 0 && code != READ_ENDED {
             format!("the page word {word}")
+        } else if mark != 0 && code != READ_ENDED {
+            format!("the mark {mark}")
+        } else if mark > EXACT {
+            return Err(format!("{mark} is no mark: 1 is for the tag asked for, 0 for a newer one"));
         } else if (tag.number == 0) != (tag.client == 0) {
             return Err(format!("{} is no tag: its number is 0 exactly when its client is 0", names::tag(tag)));
         } else {

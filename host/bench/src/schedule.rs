@@ -4,6 +4,7 @@
 use crate::jam;
 use crate::odd;
 use crate::open;
+use crate::overtaken;
 use crate::prng::Prng;
 use crate::profile::{fewest_directories, Action, Profile};
 use crate::view;
@@ -17,6 +18,8 @@ struct Mood {
     quiet_replicas: u32,
     order: Order,
     filling: bool,
+    /// Reads wait until the pages that they ask for are tidied away.
+    overtaking: bool,
     left: usize,
 }
 
@@ -117,6 +120,7 @@ impl Generator {
             return;
         }
         match self.profile.action(&mut self.rng) {
+            Action::Deliver if self.mood.overtaking && !overtaken::replicas(self.m()).is_empty() => self.tidy(),
             Action::Deliver if self.mood.filling => self.fill(),
             Action::Deliver => self.deliver(),
             Action::Start => self.start(),
@@ -195,7 +199,8 @@ impl Generator {
         let mood = &self.mood;
         let client = view::client_of(&message);
         let favoured = mood.favourite == 0 || client.is_none_or(|id| id == mood.favourite);
-        favoured && !view::touches(&message, mood.quiet_directories, mood.quiet_replicas)
+        let held_back = mood.overtaking && overtaken::finds_its_page(self.m(), &message);
+        favoured && !held_back && !view::touches(&message, mood.quiet_directories, mood.quiet_replicas)
     }
 
     /// Gossip makes notices, so delivering gossip fills the slots.
@@ -251,8 +256,9 @@ impl Generator {
         self.say(format!("G {from} {to}"));
     }
 
+    /// A replica with a page for which a read waits tells more than another.
     fn tidy(&mut self) {
-        let replica = self.rng.between(1, self.numbers.nr);
+        let replica = self.liked_or_any(&overtaken::replicas(self.m()), self.numbers.nr);
         self.say(format!("T {replica}"));
     }
 
@@ -316,6 +322,7 @@ impl Mood {
             quiet_replicas: quiet(rng),
             order: rng.pick(&[Order::Any, Order::Any, Order::Lowest, Order::Highest]),
             filling: rng.one_in(2),
+            overtaking: rng.one_in(3),
             left: 5 + rng.below(50),
         }
     }

@@ -8,9 +8,9 @@ use crate::odd::set_up_line;
 use crate::profile::divisors;
 use crate::steps::{concrete, steps, Step};
 use crate::tally::counted;
-use copy::answer::BAD_ARGUMENT;
+use copy::answer::{BAD_ARGUMENT, READ_ENDED};
 use copy::line::{parse, Call};
-use copy::{Numbers, Rehearsal};
+use copy::{Answer, Numbers, Rehearsal};
 use std::fmt;
 use std::path::Path;
 
@@ -63,17 +63,24 @@ pub fn to_difference(program: &Path, input: &[u8]) -> Result<Shrunk, String> {
 
 /// A schedule to which the copy answers with a code.
 pub fn to_code(input: &[u8], code: u32) -> Result<Shrunk, String> {
-    shorten(input, |input| code_at(input, code)).ok_or_else(|| format!("no line gets {}", names::code(code)))
+    let wanted = |answer: Answer| answer.code == code;
+    shorten(input, |input| answer_at(input, wanted)).ok_or_else(|| format!("no line gets {}", names::code(code)))
 }
 
-/// Index of the first line with this code.
-fn code_at(input: &[u8], code: u32) -> Option<usize> {
+/// A schedule in which the copy ends a read with a mark.
+pub fn to_mark(input: &[u8], mark: u32) -> Result<Shrunk, String> {
+    let wanted = |answer: Answer| answer.code == READ_ENDED && answer.mark == mark;
+    shorten(input, |input| answer_at(input, wanted)).ok_or_else(|| format!("no read ends with the mark {mark}"))
+}
+
+/// Index of the first line with a wanted answer.
+fn answer_at(input: &[u8], wanted: impl Fn(Answer) -> bool) -> Option<usize> {
     let mut machine = Rehearsal::new();
     let answer = |raw: &[u8]| match raw.strip_suffix(b"\n") {
-        Some(line) => machine.step(line).answer.code,
-        None => BAD_ARGUMENT,
+        Some(line) => machine.step(line).answer,
+        None => Answer::bare(BAD_ARGUMENT),
     };
-    raw_lines(input).map(answer).position(|given| given == code)
+    raw_lines(input).map(answer).position(wanted)
 }
 
 struct Search<F> {

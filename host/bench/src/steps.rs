@@ -15,7 +15,7 @@ pub enum Step<'a> {
     Deliver(Letter),
 }
 
-/// Kind, sender, receiver, tag, set and message number. The tag tells the page.
+/// Kind, sender, receiver, tag, set word and message number. The tag tells the page.
 pub type Letter = [u32; 7];
 
 fn letter(m: &Words, slot: u32) -> Option<Letter> {

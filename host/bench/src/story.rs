@@ -1,14 +1,17 @@
 //! What happened in a schedule, call by call: the matter of a picture.
 
-use crate::history::{histories, raw_lines, History};
+use crate::history::{histories, raw_lines, History, Operation};
+use crate::meaning::read_ended;
 use crate::refused::Refused;
 use crate::underway::{Arrow, Fate, Underway};
 use crate::view;
-use copy::answer::{BAD_ARGUMENT, DROPPED, SIZE, STALE};
-use copy::layout::{ends, Party};
+use copy::answer::{BAD_ARGUMENT, DROPPED, NEWER, READ_ENDED, SIZE, STALE};
+use copy::client::Client;
+use copy::layout::{ends, Party, READ_OK};
 use copy::line::{parse, Call};
 use copy::mail::Message;
-use copy::{Numbers, Rehearsal, Words};
+use copy::{Numbers, Rehearsal, Shown, Tag, Words};
+use std::collections::BTreeMap;
 
 /// A mark on a party's lane.
 #[derive(Clone, Copy, Debug)]
@@ -41,6 +44,8 @@ pub struct Story {
     /// Each has its history, at the same place.
     pub machines: Vec<Machine>,
     pub histories: Vec<History>,
+    /// What `tell` says of each read that got a newer tag than it had asked for, by its last line.
+    newer: BTreeMap<usize, String>,
     underway: Underway,
 }
 
@@ -71,14 +76,25 @@ impl Story {
         &self.machines[self.machine_after(column) - 1].numbers
     }
 
+    /// What is said of a read that got a newer tag than it had asked for; of no other operation.
+    pub fn newer(&self, operation: &Operation) -> Option<&str> {
+        self.newer.get(&operation.end?).map(String::as_str)
+    }
+
     fn machine_after(&self, column: usize) -> usize {
         self.machines.partition_point(|machine| machine.column <= column)
     }
 
     fn take(&mut self, machine: &mut Rehearsal, number: usize, raw: &[u8]) {
         let line = raw.strip_suffix(b"\n");
-        let code = line.map_or(BAD_ARGUMENT, |line| machine.step(line).answer.code);
-        match line.and_then(parse) {
+        let call = line.and_then(parse);
+        let asked = call.and_then(|call| asked(machine.words(), call));
+        let shown = line.map(|line| machine.step(line));
+        let code = shown.map_or(BAD_ARGUMENT, |shown| shown.answer.code);
+        if let Some((shown, asked)) = shown.filter(got_newer).zip(asked) {
+            self.newer.insert(number, read_ended(&shown, asked));
+        }
+        match call {
             Some(call) if code < SIZE => {
                 let text = String::from_utf8_lossy(line.unwrap_or_default()).into_owned();
                 self.accept(call, code, machine.words());
@@ -112,6 +128,16 @@ impl Story {
             _ => (),
         }
     }
+}
+
+/// The tag that the receiver of a read-ok wants; the row forgets it when the read ends.
+fn asked(m: &Words, call: Call) -> Option<Tag> {
+    let reply = view::arriving(m, call).filter(|message| message.kind == READ_OK)?;
+    Some(Client::read(m, reply.to).tag)
+}
+
+fn got_newer(shown: &Shown) -> bool {
+    shown.answer.code == READ_ENDED && shown.answer.mark == NEWER
 }
 
 /// What became of a delivered message.

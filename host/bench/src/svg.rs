@@ -27,6 +27,11 @@ impl Svg {
         self.add(format_args!("</g>"));
     }
 
+    /// What the group that was begun is, for a mouse that rests on it.
+    pub fn title(&mut self, text: &str) {
+        self.add(format_args!("<title>{}</title>", escaped(text)));
+    }
+
     pub fn line(&mut self, from: (f64, f64), to: (f64, f64), style: &str) {
         self.add(format_args!(
             r#"<line x1="{:.1}" y1="{:.1}" x2="{:.1}" y2="{:.1}" {style}/>"#,

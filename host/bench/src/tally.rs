@@ -1,7 +1,7 @@
-//! How often each code came on each of the two machines, to see that the schedules go deep.
+//! How often each code and each mark came on each of the two machines, to see that the schedules go deep.
 
 use crate::history::{lines, raw_lines, Printed};
-use copy::answer::{DONE, READ_ENDED, WRITE_ENDED};
+use copy::answer::{DONE, NEWER, READ_ENDED, WRITE_ENDED};
 use copy::line::{parse, Call};
 use copy::Layout;
 use std::fmt;
@@ -21,6 +21,8 @@ pub struct Sort {
     /// Accepted ones.
     pub set_ups: u64,
     pub codes: [u64; 32],
+    /// Ended reads that got a newer page than they asked for.
+    pub newer: u64,
 }
 
 impl Tally {
@@ -36,6 +38,7 @@ impl Tally {
             if let Some(count) = sort.codes.get_mut(printed.code as usize) {
                 *count += 1;
             }
+            sort.newer += u64::from(printed.code == READ_ENDED && printed.mark == NEWER);
             if let (Some(layout), DONE) = (set_up, printed.code) {
                 sort.set_ups += 1;
                 in_force = layout;
@@ -65,6 +68,7 @@ impl Tally {
 impl Sort {
     fn join(&mut self, other: &Sort) {
         self.set_ups += other.set_ups;
+        self.newer += other.newer;
         self.codes.iter_mut().zip(other.codes).for_each(|(sum, count)| *sum += count);
     }
 
@@ -93,7 +97,7 @@ impl fmt::Display for Sort {
     fn fmt(&self, f: &mut fmt::Formatter<'_>) -> fmt::Result {
         let [set_ups, reads, writes] = [(self.set_ups, "set-up"), (self.reads(), "read"), (self.writes(), "write")]
             .map(|(n, what)| counted(n, what));
-        write!(f, "{set_ups}, {reads} and {writes} ended, codes")?;
+        write!(f, "{set_ups}, {reads} ({} with a newer page) and {writes} ended, codes", self.newer)?;
         let used = self.codes.iter().enumerate().filter(|(_, &count)| count > 0);
         used.into_iter().try_for_each(|(code, count)| write!(f, " {code}:{count}"))
     }

@@ -9,7 +9,6 @@ use copy::answer::BAD_ARGUMENT;
 use copy::layout::*;
 use copy::line::{parse, Call};
 use copy::mail::Message;
-use copy::numbers::within;
 use copy::{Numbers, Rehearsal, Words};
 use std::fmt;
 
@@ -108,13 +107,8 @@ fn details(before: &Words, after: &Words, call: Call) -> Vec<String> {
     arrived.into_iter().chain(rows(before, after)).chain(mail(before, after, slot)).collect()
 }
 
-/// The message that a delivery is about.
 fn arrived(before: &Words, call: Call) -> Option<String> {
-    let message = match call {
-        Call::Deliver { slot } if within(slot, SLOTS as u32) => view::message(before, slot)?,
-        _ => return None,
-    };
-    Some(words::sent(&message, bit(message.to)))
+    view::arriving(before, call).map(|message| words::sent(&message, bit(message.to)))
 }
 
 fn rows(before: &Words, after: &Words) -> Vec<String> {

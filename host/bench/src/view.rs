@@ -1,7 +1,9 @@
 //! What a generator or a picture wants to know of a machine.
 
 use copy::layout::*;
+use copy::line::Call;
 use copy::mail::{self, Message};
+use copy::numbers::within;
 use copy::{Numbers, Words};
 
 pub fn waiting(m: &Words) -> Vec<u32> {
@@ -10,6 +12,14 @@ pub fn waiting(m: &Words) -> Vec<u32> {
 
 pub fn message(m: &Words, slot: u32) -> Option<Message> {
     (m[slot_at(m, slot)] != 0).then(|| mail::read(m, slot))
+}
+
+/// The message that a delivery is about.
+pub fn arriving(m: &Words, call: Call) -> Option<Message> {
+    match call {
+        Call::Deliver { slot } if within(slot, SLOTS as u32) => message(m, slot),
+        _ => None,
+    }
 }
 
 pub fn is_down(m: &Words, party: Party, id: u32) -> bool {

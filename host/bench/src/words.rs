@@ -1,7 +1,7 @@
 //! A machine in words: a sentence for each row, and where the newest page lies.
 
 use crate::columns::{column_of, columns, lacks, party_at};
-use crate::names::{doing, kind_name, listed, parties, party_name, set, tag};
+use crate::names::{doing, kind_name, listed, mark, parties, party_name, set, tag};
 use crate::newest;
 use crate::open::{enough, entries, up, Enough, Open};
 use crate::story::ends_of;
@@ -202,13 +202,14 @@ pub fn sent(message: &Message, receivers: u32) -> String {
     std::iter::once(ends).chain(carried(message)).collect::<Vec<_>>().join(", ")
 }
 
-/// "Carried fields", in the paper's words.
+/// "Carried fields", in the paper's words; the set word of a read-ok is a mark.
 fn carried(message: &Message) -> Vec<String> {
     let Message { kind, number, .. } = *message;
     let has = |kinds: &[u32], text: String| kinds.contains(&kind).then_some(text);
     let fields = [
         has(&[2, 4, 5, 7, 9, 10, 11, 12, 14, 15], format!("tag {}", tag(message.tag))),
         has(&[2, 4, 5], format!("set {}", set(message.set))),
+        has(&[12], mark(message.set).to_string()),
         has(&[10, 12, 15], format!("page {}", message.page[0])),
         (![NOTICE, GOSSIP].contains(&kind)).then(|| format!("number {number}")),
     ];

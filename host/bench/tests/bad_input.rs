@@ -78,9 +78,9 @@ fn a_million_claims() {
     let mut output = Vec::new();
     for (at, line) in bench::history::lines(&input).enumerate() {
         let answer = match line {
-            b"D 1" if at < 2 * reads + 1 => "1 1 0 0 7",
-            b"D 1" => "1 1 1 8 9",
-            _ => "0 0 0 0 0",
+            b"D 1" if at < 2 * reads + 1 => "1 1 0 0 7 1",
+            b"D 1" => "1 1 1 8 9 1",
+            _ => "0 0 0 0 0 0",
         };
         output.extend(format!("{} {answer}\n", at + 1).bytes());
     }

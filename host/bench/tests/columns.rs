@@ -90,18 +90,20 @@ fn answers_that_are_wrong() {
     let output = String::from_utf8(copy_output(input.as_bytes())).expect("text");
     let told = |input: &str, output: &str| check(input.as_bytes(), output.as_bytes()).map(|checked| checked.in_line);
     assert_eq!(told(&input, &output), Ok(2));
-    let lie = output.replace(" 1 1 1 1 5\n", " 1 1 1 1 6\n");
+    let lie = output.replace(" 1 1 1 1 5 1\n", " 1 1 1 1 6 1\n");
     assert_ne!(lie, output);
     assert!(told(&input, &lie).is_err_and(|why| why.contains("should show 5")));
-    let first = |line: &str, answer: &str| told(&format!("{line}\n"), &format!("1 {answer} 0 0 0 0\n"));
+    let lie = output.replace(" 1 1 1 1 5 1\n", " 1 1 1 1 5 0\n");
+    assert!(told(&input, &lie).is_err_and(|why| why.contains("ended before it started")));
+    let first = |line: &str, answer: &str| told(&format!("{line}\n"), &format!("1 {answer} 0 0 0 0 0\n"));
     assert_eq!(first("C 1 4 1 0 2 9 7", "0"), Ok(0));
     for (line, code) in [("C 1 4 1 0 2 9 7", "18"), ("C 1 4 1 0 3 9 7", "0"), ("C 1 4 1 0 2 9", "0")] {
         assert!(first(line, code).is_err(), "{line}: {code}");
     }
     // A refused set-up leaves 16 directories in force, and they are directories of this machine alone.
     let crashes = "C 1 16 1 0 4 9 7\nS 1 5 1 0 1 1 9 7\nX 2 16\nS 1 5 1 0 1 5 9 7\nX 2 16\n";
-    assert_eq!(told(crashes, "1 0 0 0 0 0\n2 18 0 0 0 0\n3 0 0 0 0 0\n4 0 0 0 0 0\n5 18 0 0 0 0\n"), Ok(0));
-    assert!(told(crashes, "1 0 0 0 0 0\n2 18 0 0 0 0\n3 18 0 0 0 0\n4 0 0 0 0 0\n5 18 0 0 0 0\n").is_err());
+    assert_eq!(told(crashes, "1 0 0 0 0 0 0\n2 18 0 0 0 0 0\n3 0 0 0 0 0 0\n4 0 0 0 0 0 0\n5 18 0 0 0 0 0\n"), Ok(0));
+    assert!(told(crashes, "1 0 0 0 0 0 0\n2 18 0 0 0 0 0\n3 18 0 0 0 0 0\n4 0 0 0 0 0 0\n5 18 0 0 0 0 0\n").is_err());
 }
 
 /// The copy behind a change of its input; the file is gone at the end of its test.

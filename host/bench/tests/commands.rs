@@ -43,12 +43,13 @@ impl Drop for Scratch {
     }
 }
 
-/// The commands that `help` lists, with the names of their arguments.
+/// The commands that `help` lists, with the names of the arguments that they must have.
 fn listed() -> Vec<(String, Vec<String>)> {
     let help = out(&bench(&["help"]));
     let usage = |line: &str| {
         let (usage, _) = line.split_once("  ").expect("a usage and a word on it");
-        let mut words = usage.split_whitespace().skip(1).map(String::from);
+        let needed = usage.split(" [").next().unwrap_or_default();
+        let mut words = needed.split_whitespace().skip(1).map(String::from);
         (words.next().expect("a name"), words.collect())
     };
     help.lines().map(usage).collect()
@@ -56,8 +57,7 @@ fn listed() -> Vec<(String, Vec<String>)> {
 
 /// Arguments that are right but for the files' names.
 fn right<'a>(arguments: &[String], path: &'a str) -> Vec<&'a str> {
-    let wanted = arguments.iter().filter(|name| !name.starts_with('[') && !name.ends_with(']'));
-    wanted.map(|name| if name.starts_with("OUT") { "/nowhere/at/all.svg" } else { path }).collect()
+    arguments.iter().map(|name| if name.starts_with("OUT") { "/nowhere/at/all.svg" } else { path }).collect()
 }
 
 /// Every command that takes a file, with this one.
@@ -123,6 +123,8 @@ fn numbers_are_checked() {
         &["shrink", path, "--code", "6"],
         &["shrink", path, "--code", "x"],
         &["shrink", path, "--code"],
+        &["shrink", path, "--mark", "2"],
+        &["shrink", path, "--mark"],
     ] {
         let wrong = bench(words);
         assert_eq!(wrong.status.code(), Some(2), "{words:?}: {}", errors(&wrong));
@@ -191,7 +193,7 @@ fn a_line_of_a_hundred_megabytes() {
     let told = out(&bench(&["tell", path]));
     assert!(told.contains("\n2: 9999") && told.contains("(100000000 bytes) -> 18 BAD ARGUMENT"), "{told}");
     assert!(told.len() < 1000 && told.contains("\n3: R 1 -> 0 DONE"), "{told}");
-    assert_eq!(out(&bench(&["rehearse", path])), "1 0 0 0 0 0\n2 18 0 0 0 0\n3 0 0 0 0 0\n");
+    assert_eq!(out(&bench(&["rehearse", path])), "1 0 0 0 0 0 0\n2 18 0 0 0 0 0\n3 0 0 0 0 0 0\n");
     assert_eq!(bench(&["rehearse", path]).stdout, bench(&["run", path]).stdout);
 }
 

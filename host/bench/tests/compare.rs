@@ -86,20 +86,20 @@ fn one_file() {
 #[test]
 fn the_first_line_that_differs() {
     let told = |program, input: &[u8]| compare_one(Path::new(program), input);
-    let right = b"1 18 0 0 0 0\n2 18 0 0 0 0\n";
+    let right = b"1 18 0 0 0 0 0\n2 18 0 0 0 0 0\n";
     assert_eq!(told("cat", right), Ok(2));
     assert_eq!(
         told("cat", &[&right[..], b"R 1\nR 2\n"].concat()),
-        Err("line 3, \"R 1\": the copy prints \"3 17 0 0 0 0\", the program \"R 1\"".to_string())
+        Err("line 3, \"R 1\": the copy prints \"3 17 0 0 0 0 0\", the program \"R 1\"".to_string())
     );
     assert_eq!(
-        told("cat", b"1 18 0 0 0 0"),
-        Err("line 1, \"1 18 0 0 0 0\": the copy prints \"1 18 0 0 0 0\", the program \"1 18 0 0 0 0\" without its LF"
+        told("cat", b"1 18 0 0 0 0 0"),
+        Err("line 1, \"1 18 0 0 0 0 0\": the copy prints \"1 18 0 0 0 0 0\", the program \"1 18 0 0 0 0 0\" without its LF"
             .to_string())
     );
     assert_eq!(
         told("true", b"\xff\n"),
-        Err("line 1, \"\\xff\": the copy prints \"1 18 0 0 0 0\", the program nothing".to_string())
+        Err("line 1, \"\\xff\": the copy prints \"1 18 0 0 0 0 0\", the program nothing".to_string())
     );
     assert_eq!(
         told("env", b"").map_err(|why| why.split(", the program").next().unwrap_or_default().to_string()),

@@ -6,8 +6,12 @@ mod arrows;
 mod columns;
 #[path = "pictures/command.rs"]
 mod command;
+#[path = "pictures/marks.rs"]
+mod marks;
 #[path = "pictures/matter.rs"]
 mod matter;
+#[path = "common/newer.rs"]
+mod newer;
 #[path = "pictures/page.rs"]
 mod page;
 #[path = "pictures/rows.rs"]

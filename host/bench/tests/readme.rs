@@ -1,6 +1,7 @@
 //! What README shows is what the bench prints.
 
-use bench::tell::machine_after;
+use bench::history::raw_lines;
+use bench::tell::{machine_after, Teller};
 use bench::why::why;
 use std::path::Path;
 use std::process::Command;
@@ -17,8 +18,22 @@ fn indented(text: &str) -> String {
 
 #[test]
 fn the_example_told() {
-    let told = machine_after(tree("docs/example.txt").as_bytes(), 41).expect("line 41");
-    assert!(tree("README.md").contains(&indented(&told)), "bench tell docs/example.txt 41 prints\n{told}");
+    let example = tree("docs/example.txt");
+    let told = machine_after(example.as_bytes(), 42).expect("line 42");
+    assert!(tree("README.md").contains(&indented(&told)), "bench tell docs/example.txt 42 prints\n{told}");
+    let size = format!("a schedule of {} lines", example.lines().count());
+    assert!(tree("README.md").contains(&size), "{size}");
+}
+
+/// A read that asked for a page and got a newer one.
+#[test]
+fn a_newer_page_told() {
+    let mut teller = Teller::new();
+    let example = tree("docs/example.txt");
+    let all: Vec<String> = raw_lines(example.as_bytes()).map(|raw| teller.take(raw).to_string()).collect();
+    let told = all[29..32].concat();
+    assert!(told.contains("READ ENDED") && told.contains("newer than asked"), "{told}");
+    assert!(tree("README.md").contains(&indented(&told)), "bench tell docs/example.txt prints\n{told}");
 }
 
 #[test]

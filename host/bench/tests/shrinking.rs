@@ -4,7 +4,7 @@ use bench::compare::copy_output;
 use bench::history::{lines, raw_lines, Printed};
 use bench::prng::Prng;
 use bench::schedule;
-use bench::shrink::{shorten, to_code, to_difference, Shrunk};
+use bench::shrink::{shorten, to_code, to_difference, to_mark, Shrunk};
 use bench::steps::{concrete, steps};
 use std::cell::Cell;
 use std::path::Path;
@@ -89,6 +89,15 @@ fn codes_in_small_schedules() {
     assert!(seen > 100, "few codes were seen: {seen}");
 }
 
+/// A read waits at the replica while a write ends and is secured there, and its page is tidied away.
+#[test]
+fn a_newer_page_in_a_small_schedule() {
+    let steps = format!("R 1\n{}W 2 9\n{}T 1\nD 1\nD 1\n", "D 1\n".repeat(4), "D 2\n".repeat(7));
+    let found = to_mark(format!("Q\nS 8 1 1 0 1 1 99 7\nT 1\n{steps}R 1\n").as_bytes(), 0);
+    assert_eq!(found.map(|found| found.schedule), Ok(format!("S 2 1 1 0 1 1 3 7\n{steps}").into_bytes()));
+    assert_eq!(to_mark(b"R 1\n", 0), Err("no read ends with the mark 0".to_string()));
+}
+
 /// A full replica has 12 entries, so it takes 13 writes: a long schedule comes down to about that.
 #[test]
 fn a_full_replica_in_a_long_schedule() {
@@ -139,7 +148,7 @@ fn says_where_there_is_nothing_to_show() {
 #[test]
 fn differences_in_small_schedules() {
     let cat = Path::new("cat");
-    let right = b"1 18 0 0 0 0\n2 18 0 0 0 0\n3 18 0 0 0 0\n";
+    let right = b"1 18 0 0 0 0 0\n2 18 0 0 0 0 0\n3 18 0 0 0 0 0\n";
     assert_eq!(to_difference(cat, right), Err("nothing differs in 3 lines".to_string()));
     let found = to_difference(cat, &[&right[..], b"S 5 1 1 0 1 1 9 7\nR 1\nR 5\n"].concat());
     assert_eq!(found.map(|found| found.schedule), Ok(b"S 1 1 1 0 1 1 3 7\n".to_vec()));

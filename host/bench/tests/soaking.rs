@@ -66,10 +66,10 @@ fn a_difference_ends_it() {
 fn what_is_told() {
     let mut tally = Tally { schedules: 3, operations: 2, ..Tally::default() };
     (tally.base.codes[0], tally.wide.codes[0]) = (30, 20);
-    (tally.wide.set_ups, tally.wide.codes[1], tally.wide.codes[2]) = (1, 2, 1);
+    (tally.wide.set_ups, tally.wide.codes[1], tally.wide.codes[2], tally.wide.newer) = (1, 2, 1, 1);
     let expected = "seed 9, 10 minutes: all agree: 3 schedules, 53 lines, 2 operations in line\n\
-        by counts: 0 set-ups, 0 reads and 0 writes ended, codes 0:30\n\
-        in columns: 1 set-up, 2 reads and 1 write ended, codes 0:20 1:2 2:1";
+        by counts: 0 set-ups, 0 reads (0 with a newer page) and 0 writes ended, codes 0:30\n\
+        in columns: 1 set-up, 2 reads (1 with a newer page) and 1 write ended, codes 0:20 1:2 2:1";
     assert_eq!(told(9, &tally, 10), expected);
     let left = |seconds| so_far(&tally, Duration::from_secs(seconds));
     assert_eq!(left(61), "3 schedules, 53 lines, 2 operations; 2 minutes left");

@@ -2,6 +2,10 @@
 
 #[path = "telling/columns.rs"]
 mod columns;
+#[path = "telling/marks.rs"]
+mod marks;
+#[path = "common/newer.rs"]
+mod newer;
 
 use bench::compare::copy_output;
 use bench::history::{lines, raw_lines, Printed};
@@ -49,7 +53,7 @@ fn accepted_calls() {
     }
     means(
         &(SMALL.to_string() + &delivered("R 1", 6)),
-        "1 READ ENDED: the read of client 1 ends with page 7, tag (0,0)",
+        "1 READ ENDED: the read of client 1 ends with page 7, tag (0,0), the tag asked for",
     );
     means(&(SMALL.to_string() + &delivered("W 1 9", 6)), "2 WRITE ENDED: the write of client 1 ends with tag (1,1)");
 }

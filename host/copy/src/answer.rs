@@ -18,17 +18,23 @@ pub const EMPTY: u32 = 22;
 pub const FULL: u32 = 23;
 pub const NO_SLOT: u32 = 24;
 
+// Marks.
+pub const NEWER: u32 = 0;
+pub const EXACT: u32 = 1;
+
 #[derive(Clone, Copy, PartialEq, Eq, Debug)]
 pub struct Answer {
     pub code: u32,
     pub client: u32,
     pub tag: Tag,
+    /// Of a read: 1 where it got the very tag that it had asked for, 0 where it got a newer one.
+    pub mark: u32,
 }
 
 impl Answer {
     /// Codes that carry nothing else.
     pub fn bare(code: u32) -> Answer {
-        Answer { code, client: 0, tag: Tag::FIRST }
+        Answer { code, client: 0, tag: Tag::FIRST, mark: 0 }
     }
 
     pub fn accepted(&self) -> bool {

@@ -50,7 +50,8 @@ struct KindForm {
     from: Party,
     to: Party,
     tag: Use,
-    set: Use,
+    /// Bits of the set word, if there are so many replicas: one for a mark.
+    set_bits: u32,
     number: Use,
     no_page: Use,
 }
@@ -72,7 +73,8 @@ const fn kind_form(kind: u32) -> KindForm {
     let set = matches!(kind, RWRITE | WWRITE | RREAD_OK);
     let tag = set || matches!(kind, WREAD_OK | READ | WRITE | SECURE | READ_OK | NOTICE | GOSSIP);
     let page = matches!(kind, WRITE | READ_OK | GOSSIP);
-    KindForm { from, to, tag: used(tag), set: used(set), number: used(kind < NOTICE), no_page: used(!page) }
+    let set_bits = if set { u32::BITS } else { (kind == READ_OK) as u32 };
+    KindForm { from, to, tag: used(tag), set_bits, number: used(kind < NOTICE), no_page: used(!page) }
 }
 
 /// The numbers of a good machine, nothing for a bad one.
@@ -252,7 +254,7 @@ fn slot_good(slot: &[u32; SLOT_ROW], n: &Numbers, parties: &[u32; 3], strays: &m
     counts(from, parties[form.from as usize])
         & counts(to, parties[form.to as usize])
         & tag_good(tag_number, tag_client, n, form.tag)
-        & set_good(set, n.nr & form.set)
+        & set_good(set, n.nr.min(form.set_bits))
         & number_good
         & (spare == 0)
 }

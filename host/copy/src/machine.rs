@@ -149,10 +149,10 @@ fn to_client(m: &mut Words, n: &Numbers, slot: u32, message: &Message, page: &mu
     Ok(match outcome {
         Outcome::ReadEnded => {
             page.copy_from_slice(&message.page);
-            Answer { code: READ_ENDED, client: id, tag: message.tag }
+            Answer { code: READ_ENDED, client: id, tag: message.tag, mark: message.set }
         }
-        Outcome::WriteEnded(_) => Answer { code: WRITE_ENDED, client: id, tag: row.tag },
-        Outcome::Spent => Answer { code: WRITE_SPENT, client: id, tag: Tag::FIRST },
+        Outcome::WriteEnded(_) => Answer { client: id, tag: row.tag, ..Answer::bare(WRITE_ENDED) },
+        Outcome::Spent => Answer { client: id, ..Answer::bare(WRITE_SPENT) },
         _ => Answer::bare(DONE),
     })
 }

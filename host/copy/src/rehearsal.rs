@@ -109,7 +109,7 @@ impl Rehearsal {
         self.lines += 1;
         let Shown { answer, word } = shown;
         decimal(self.lines, out);
-        for field in [answer.code, answer.client, answer.tag.number, answer.tag.client, word] {
+        for field in [answer.code, answer.client, answer.tag.number, answer.tag.client, word, answer.mark] {
             out.push(b' ');
             decimal(u64::from(field), out);
         }

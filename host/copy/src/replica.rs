@@ -1,5 +1,6 @@
 //! The replica rule, on the twelve entries of one replica.
 
+use crate::answer::{EXACT, NEWER};
 use crate::layout::*;
 use crate::mail::{Message, Send};
 use crate::tag::Tag;
@@ -41,10 +42,11 @@ impl Entries<'_> {
         (tag_of(row), page_of(row))
     }
 
-    fn answer_for(&self, tag: Tag) -> (Tag, Page) {
+    /// The tag asked for, or the highest secured one instead; and which of the two, as the reply's mark.
+    fn answer_for(&self, tag: Tag) -> ((Tag, Page), u32) {
         match self.find(tag) {
-            Some(entry) => (tag, page_of(&self.0[entry * ENTRY_ROW..][..ENTRY_ROW])),
-            None => self.highest(),
+            Some(entry) => ((tag, page_of(&self.0[entry * ENTRY_ROW..][..ENTRY_ROW])), EXACT),
+            None => (self.highest(), NEWER),
         }
     }
 
@@ -62,8 +64,8 @@ impl Entries<'_> {
         let me = message.to;
         match message.kind {
             READ => {
-                let (tag, page) = self.answer_for(message.tag);
-                let reply = Message::new(READ_OK, me, message.number).tagged(tag).with_page(page);
+                let ((tag, page), mark) = self.answer_for(message.tag);
+                let reply = Message::new(READ_OK, me, message.number).tagged(tag).with_set(mark).with_page(page);
                 (Change::None, Some(reply.to_one(message.from)))
             }
             WRITE => {

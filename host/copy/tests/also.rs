@@ -252,3 +252,23 @@ fn fields_that_kinds_carry() {
         assert!(!code([kind, 1, count(to) + 1, 0, 0, 0, number], 0));
     }
 }
+
+/// The set word: replicas in 2, 4 and 5, a mark in 12, nothing in the others.
+#[test]
+fn sets_and_marks_that_kinds_carry() {
+    for good in [machine(2, 1, 3, 1, 1, 1, 9), wide_machine(2, 2, 3, 1, 1, 9)] {
+        for kind in 1..=15 {
+            let most = match kind {
+                2 | 4 | 5 => 0b111,
+                12 => 1,
+                _ => 0,
+            };
+            for set in (0..=16).chain([256, 65_537, 1 << 31, u32::MAX - 1, u32::MAX]) {
+                let mut m = good.clone();
+                put_message(&mut m, 128, [kind, 1, 1, 0, 0, set, u32::from(kind < 14)]);
+                let code = if set <= most { DONE } else { BAD_MACHINE };
+                assert_eq!(machine::report(Layout::of(&m), &mut m).code, code, "kind {kind}, set {set}");
+            }
+        }
+    }
+}

@@ -41,21 +41,26 @@ fn directory_3_to_7() {
     assert_eq!(d_takes(RWRITE, 1, (4, 1), 0b110), ((4, 1, 0b110), RWRITE_OK));
 }
 
-/// What a replica with these entries answers to read.
-fn read_at(entries: &[(u32, u32, u32)], tag: (u32, u32)) -> (u32, u32, u32) {
+/// What a replica with these entries answers to read: tag, page word and mark.
+fn read_at(entries: &[(u32, u32, u32)], tag: (u32, u32)) -> (u32, u32, u32, u32) {
     let mut m = machine(2, 1, 1, 0, 1, 1, 9);
     put_entries(&mut m, entries);
     put_message(&mut m, 1, [READ, 1, 1, tag.0, tag.1, 0, 1]);
     assert_eq!(deliver(&mut m, 1, &mut [0; 16]).code, DONE);
     assert_eq!(m[SLOT_BASE], READ_OK);
-    (m[SLOT_BASE + 3], m[SLOT_BASE + 4], m[SLOT_BASE + 8])
+    (m[SLOT_BASE + 3], m[SLOT_BASE + 4], m[SLOT_BASE + 8], m[SLOT_BASE + 5])
 }
 
 #[test]
 fn replica_8_and_9() {
     let entries = [(SECURED, 0, 0), (HELD, 2, 1)];
-    assert_eq!(read_at(&entries, (2, 1)), (2, 1, 201));
-    assert_eq!(read_at(&entries, (1, 1)), (0, 0, 0));
+    assert_eq!(read_at(&entries, (2, 1)), (2, 1, 201, EXACT));
+    assert_eq!(read_at(&entries, (1, 1)), (0, 0, 0, NEWER));
+    assert_eq!((EXACT, NEWER), (1, 0));
+    // The first tag is there as any other, and the highest secured tag may be the one asked for.
+    assert_eq!(read_at(&entries, (0, 0)), (0, 0, 0, EXACT));
+    assert_eq!(read_at(&[(SECURED, 3, 1), (HELD, 4, 1)], (3, 1)), (3, 1, 301, EXACT));
+    assert_eq!(read_at(&[(SECURED, 3, 1), (HELD, 4, 1)], (2, 2)), (3, 1, 301, NEWER));
 }
 
 fn tidied(entries: &[(u32, u32, u32)]) -> Vec<(u32, u32, u32)> {

@@ -4,7 +4,7 @@ mod common;
 use common::*;
 use copy::answer::*;
 use copy::layout::*;
-use copy::{deliver, start_write, Answer, Tag};
+use copy::{deliver, machine as calls, start_write, Answer, Tag};
 
 /// Client 1 as phase, number, answered set, replica set and tag.
 fn put_client(m: &mut [u32], row: [u32; 6]) {
@@ -30,7 +30,7 @@ fn secure_keeps_the_message_number() {
     for _ in 0..5 {
         assert_eq!(deliver_first(&mut m).code, DONE);
     }
-    assert_eq!(deliver_first(&mut m), Answer { code: WRITE_ENDED, client: 1, tag: Tag::new(1, 1) });
+    assert_eq!(deliver_first(&mut m), Answer { client: 1, tag: Tag::new(1, 1), ..Answer::bare(WRITE_ENDED) });
     assert_eq!(slot(&m, 1), [SECURE, 1, 1, 1, 1, 0, 3]);
     assert_eq!(m[CLIENT_BASE..CLIENT_BASE + 24], [&[0, 0, 3][..], &[0; 21]].concat());
     assert_eq!(deliver_first(&mut m).code, DONE);
@@ -54,8 +54,30 @@ fn a_read_ends_at_any_replica() {
     put_message(&mut m, 1, [READ_OK, 3, 1, 2, 1, 0, 3]);
     m[SLOT_BASE + 8] = 77;
     let mut page = [1; 16];
-    assert_eq!(deliver(&mut m, 1, &mut page), Answer { code: READ_ENDED, client: 1, tag: Tag::new(2, 1) });
+    let ended = Answer { code: READ_ENDED, client: 1, tag: Tag::new(2, 1), mark: NEWER };
+    assert_eq!(deliver(&mut m, 1, &mut page), ended);
     assert_eq!(page, common::page(77));
+}
+
+/// The client asked for (4,1): the reply's mark is repeated, whatever its tag.
+#[test]
+fn the_mark_is_the_replys() {
+    for blank in [machine(1, 1, 3, 1, 1, 1, 9), wide_machine(1, 2, 3, 1, 1, 9)] {
+        for (tag, mark) in [(2, EXACT), (2, NEWER), (4, EXACT), (4, NEWER), (5, EXACT), (5, NEWER)] {
+            let mut m = blank.clone();
+            put_client(&mut m, [RRR, 3, 0, 0b001, 4, 1]);
+            put_message(&mut m, 1, [READ_OK, 1, 1, tag, 1, mark, 3]);
+            let answer = |m: &mut [u32]| calls::deliver(Layout::of(m), m, 1, &mut [0; 16]);
+            // An answer that ends no read has none.
+            let (mut down, mut other) = (m.clone(), m.clone());
+            down[CLIENT_BASE] = 1;
+            other[CLIENT_BASE + 2] = 4;
+            assert_eq!(answer(&mut down), Answer::bare(DROPPED));
+            assert_eq!(answer(&mut other), Answer::bare(STALE));
+            let ended = Answer { code: READ_ENDED, client: 1, tag: Tag::new(tag, 1), mark };
+            assert_eq!(answer(&mut m), ended);
+        }
+    }
 }
 
 #[test]
@@ -111,6 +133,6 @@ fn a_write_that_is_another_clients() {
     assert_eq!(slot(&m, 1), [WWRITE, 1, 1, 0, 0, 0b101, 3]);
     m[CLIENT_BASE + 5..CLIENT_BASE + 7].copy_from_slice(&[4, 2]);
     assert_eq!(deliver_first(&mut m).code, DONE);
-    assert_eq!(deliver_first(&mut m), Answer { code: WRITE_ENDED, client: 1, tag: Tag::new(4, 2) });
+    assert_eq!(deliver_first(&mut m), Answer { client: 1, tag: Tag::new(4, 2), ..Answer::bare(WRITE_ENDED) });
     assert_eq!((slot(&m, 1), slot(&m, 2)[2]), (&[SECURE, 1, 1, 4, 2, 0, 3][..], 3));
 }

@@ -268,7 +268,7 @@ fn a_read_and_a_write_with_twelve_directories() {
         assert_eq!(round(&mut m, WWRITE, WWRITE_OK, id, page).code, DONE);
         assert_eq!(phase(&m), WDW, "{id}");
     }
-    let ended = Answer { code: WRITE_ENDED, client: 1, tag: Tag::new(1, 1) };
+    let ended = Answer { client: 1, tag: Tag::new(1, 1), ..Answer::bare(WRITE_ENDED) };
     assert_eq!(round(&mut m, WWRITE, WWRITE_OK, 12, page), ended);
 
     assert_eq!(start_read(&mut m, 1).code, DONE);
@@ -286,7 +286,7 @@ fn a_read_and_a_write_with_twelve_directories() {
     }
     assert_eq!(round(&mut m, RWRITE, RWRITE_OK, 12, page).code, DONE);
     assert_eq!(phase(&m), RRR);
-    let ended = Answer { code: READ_ENDED, client: 1, tag: Tag::new(1, 1) };
+    let ended = Answer { code: READ_ENDED, client: 1, tag: Tag::new(1, 1), mark: EXACT };
     assert_eq!(round(&mut m, READ, READ_OK, 1, page), ended);
     assert_eq!(*page, common::page(5));
 }

@@ -29,9 +29,9 @@ fn codes(input: &[u8]) -> Vec<u32> {
 #[test]
 fn worked_example() {
     let input = format!("S 1 1 1 0 1 1 6 7\nW 1 9\n{}R 1\n{}R 1\n", "D 1\n".repeat(6), "D 2\n".repeat(6));
-    let expected = "1 0 0 0 0 0\n2 0 0 0 0 0\n3 0 0 0 0 0\n4 0 0 0 0 0\n5 0 0 0 0 0\n6 0 0 0 0 0\n\
-        7 0 0 0 0 0\n8 2 1 1 1 0\n9 0 0 0 0 0\n10 0 0 0 0 0\n11 0 0 0 0 0\n12 0 0 0 0 0\n\
-        13 0 0 0 0 0\n14 0 0 0 0 0\n15 1 1 1 1 9\n16 21 0 0 0 0\n";
+    let expected = "1 0 0 0 0 0 0\n2 0 0 0 0 0 0\n3 0 0 0 0 0 0\n4 0 0 0 0 0 0\n5 0 0 0 0 0 0\n6 0 0 0 0 0 0\n\
+        7 0 0 0 0 0 0\n8 2 1 1 1 0 0\n9 0 0 0 0 0 0\n10 0 0 0 0 0 0\n11 0 0 0 0 0 0\n12 0 0 0 0 0 0\n\
+        13 0 0 0 0 0 0\n14 0 0 0 0 0 0\n15 1 1 1 1 9 1\n16 21 0 0 0 0 0\n";
     assert_eq!(copy_output(input.as_bytes()), expected);
 }
 
@@ -42,7 +42,7 @@ fn empty_input_prints_nothing() {
 
 #[test]
 fn last_line_without_end() {
-    assert_eq!(copy_output(b"S 1 1 1 0 1 1 6 7"), "1 18 0 0 0 0\n");
+    assert_eq!(copy_output(b"S 1 1 1 0 1 1 6 7"), "1 18 0 0 0 0 0\n");
     assert_eq!(codes(b"S 1 1 1 0 1 1 6 7\nR 1"), [0, 18]);
     // The machine was not called, so the client is still idle.
     assert_eq!(codes(b"S 1 1 1 0 1 1 6 7\nR 1\nR 1\n"), [0, 0, 20]);

@@ -1,7 +1,7 @@
 //! A message's arrow starts where it was sent, whatever empties its slot.
 
 use super::matter::all_sorts;
-use super::shapes::{groups, members, shapes, Shape};
+use super::shapes::{groups, members, shapes, stroke, Shape};
 use bench::draw::{draw, picture};
 use bench::rows::{COLUMN, LEFT, PER_ROW};
 use bench::story::{story, Story};
@@ -50,7 +50,7 @@ fn arrows_begin_at_their_sending() {
         assert_eq!(arrived.map(|&at| sent_and_until(&all[at])).collect::<Vec<_>>(), deliveries(&input));
         for at in arrows {
             let (sent, _) = sent_and_until(&all[at]);
-            let stroke = members(&all, at)[0];
+            let stroke = stroke(&all, at);
             let x = LEFT + ((sent % PER_ROW) as f64 + 0.5) * COLUMN;
             assert_eq!(stroke.number("x1"), Some(x), "{:?}", all[at]);
             assert!(in_row(&all, sent / PER_ROW, stroke.number("y1").expect("y1")), "{:?}", all[at]);
@@ -129,6 +129,6 @@ fn lost_messages_are_drawn() {
     told.arrows[0] = Arrow { until: 3, fate: Fate::Lost, ..told.arrows[0] };
     let all = shapes(&picture(&told));
     assert!(all.iter().any(|shape| shape.text == "lost on its way"));
-    let stroke = members(&all, groups(&all, "message")[0])[0].clone();
+    let stroke = stroke(&all, groups(&all, "message")[0]);
     assert_eq!((stroke.number("x1"), stroke.number("x2")), (Some(LEFT + 45.0), Some(LEFT + 105.0)));
 }

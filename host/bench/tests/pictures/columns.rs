@@ -1,6 +1,6 @@
 //! Directories in columns: their lanes stand together, and everything finds its lane.
 
-use super::shapes::{groups, members, shapes, Shape};
+use super::shapes::{groups, members, shapes, stroke, Shape};
 use bench::draw::draw;
 use bench::rows::{COLUMN, LEFT, PER_ROW};
 use bench::story::{ends_of, story};
@@ -63,7 +63,7 @@ fn messages_find_their_lanes() {
     let mut taken = 0;
     for (arrow, at) in told.arrows.iter().zip(groups(&all, "message")).filter(|(arrow, _)| arrow.fate == Fate::Taken) {
         let (from, to) = ends_of(&arrow.message);
-        let stroke = members(&all, at)[0];
+        let stroke = stroke(&all, at);
         assert_eq!((stroke.number("y1"), stroke.number("y2")), (Some(lane(from)), Some(lane(to))), "{arrow:?}");
         taken += 1;
     }

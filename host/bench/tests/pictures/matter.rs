@@ -1,5 +1,6 @@
 //! Schedules of all sorts, and what the copy of the rules answers to them.
 
+use super::newer::newer;
 use bench::compare::copy_output;
 use bench::history::{lines, Printed};
 use bench::prng::Prng;
@@ -70,6 +71,7 @@ pub fn all_sorts() -> Vec<Vec<u8>> {
     all.extend((0..10).map(in_columns));
     all.extend((0..5).map(|seed| cold_schedule(seed, 30)));
     all.push(night::night(400));
+    all.push(newer().into_bytes());
     all.push(ODD.concat());
     all.push(b"S 1 1 1 0 1 1 6 7\nR 1".to_vec());
     all

@@ -74,6 +74,11 @@ pub fn members(all: &[Shape], index: usize) -> Vec<&Shape> {
     all.iter().filter(|shape| shape.inside.contains(&index)).collect()
 }
 
+/// The first stroke in a group.
+pub fn stroke(all: &[Shape], index: usize) -> &Shape {
+    members(all, index).into_iter().find(|shape| shape.name == "line").expect("a stroke")
+}
+
 /// Indices of the groups of a class.
 pub fn groups(all: &[Shape], class: &str) -> Vec<usize> {
     (0..all.len()).filter(|&index| all[index].name == "g" && all[index].is(class)).collect()
