@@ -72,7 +72,7 @@ module _ (M : Machine) (G : Good M) where
 
   acts-tells : {c : Call} {e : Effect} → Acts M c e → TellsIn M (e .answer)
   acts-tells (empties c slots n q h) =
-      one-of (λ (k : ℕ). TellsIn M (coded k)) n (0 ∷ 4 ∷ []) (cons (done) (cons (unread 4 (λ e. omega arith)) none)) q
+      one-of (λ (k : ℕ). TellsIn M (coded k)) n (0 ∷ 4 ∷ []) (cons done (cons (unread 4 (λ e. omega arith)) none)) q
   acts-tells (hears s page m i) = hearing-tells s i
   acts-tells (reads c o) = done
   acts-tells (writes c page o) = done
