@@ -55,3 +55,23 @@ fn every_command_is_walked() {
         assert!(readme.contains(&format!("\n    {}", usage.join(" "))), "{line}");
     }
 }
+
+/// The bench's lines of the walk, in their order and in an empty directory, end well. Soak alone
+/// is left out: it takes its minute.
+#[test]
+fn the_walk_runs() {
+    let readme = tree("README.md");
+    let commands = readme.split("\n## ").find(|section| section.starts_with("Commands\n")).expect("the walk");
+    let walk: Vec<&str> = commands.lines().filter(|line| line.starts_with("    bench ")).collect();
+    let program = Path::new(env!("CARGO_BIN_EXE_bench")).parent().expect("a directory");
+    let path = format!("{}:{}", program.display(), std::env::var("PATH").unwrap_or_default());
+    let place = std::env::temp_dir().join(format!("bench-walk-{}", std::process::id()));
+    std::fs::create_dir(&place).expect("an empty directory");
+    for line in walk.iter().filter(|line| !line.contains(" soak ")) {
+        let run = Command::new("sh").args(["-c", line]).current_dir(&place).env("PATH", &path).output();
+        let ended = run.expect("a shell");
+        assert!(ended.status.success(), "{line}: {}", String::from_utf8_lossy(&ended.stderr));
+    }
+    assert!(walk.len() > 12, "{walk:?}");
+    std::fs::remove_dir_all(place).expect("the directory can go");
+}

@@ -18,7 +18,7 @@ pub const EMPTY: u32 = 22;
 pub const FULL: u32 = 23;
 pub const NO_SLOT: u32 = 24;
 
-// Marks.
+// What the mark of a read says.
 pub const NEWER: u32 = 0;
 pub const EXACT: u32 = 1;
 
