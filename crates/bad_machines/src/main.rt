@@ -1,5 +1,7 @@
 // The bad-machine check on hand-made machines. A line of the input is `PLACE VALUE text`: the answer says whether the machine with that one
 // word changed is good or bad. A line `u text` begins from a machine after set-up, a line `r text` from one with a row of every kind.
+#![tactic(auto)]
+
 ghost use Rattle.std.specs.Prelude.{◌≤◌, length};
 
 use libc::{STDIN_FILENO, STDOUT_FILENO};

@@ -1,5 +1,7 @@
 // Document 01's bench examples and the borders of its ranges, run. A line is the number or a name, the case, and the outcome as the library
 // computes it.
+#![tactic(auto)]
+
 mod show; // show.rt: numbers, tags, sets and entries as text
 mod tags; // tags.rt: examples 1 and 2
 mod directories; // directories.rt: examples 3 to 7

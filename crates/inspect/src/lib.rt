@@ -1,4 +1,6 @@
 // Whether a machine is bad, document 01, "A bad machine". It runs on every call: what a kind or a phase may hold is worked out once, and the first bad row of a table ends it.
+#![tactic(auto)]
+
 ghost use Rattle.std.specs.Prelude.{◌≡◌};
 ghost use Rattle.tables.specs.Inner.{Fits};
 ghost use Rattle.inspect.specs.Good.{good};

@@ -1,4 +1,6 @@
 // The calls at the borders of document 01, "Also run", and a report: each line is a case and the code that the call answers, or a number of the report.
+#![tactic(auto)]
+
 mod say; // say.rt: lines of output
 mod set_up; // set_up.rt: the numbers, buffers, pages
 mod wear; // wear.rt: WORN

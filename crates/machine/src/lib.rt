@@ -1,4 +1,6 @@
 // The machine: eight calls on a lent buffer, document 01, "Steps" and "What a call hands back".
+#![tactic(auto)]
+
 ghost use Rattle.std.specs.Prelude.{◌≡◌, []};
 ghost use Rattle.tables.specs.Layouts.{base};
 ghost use Rattle.machine.specs.Calls.{set_up, start_read, start_write, deliver, gossip, tidy, crash};

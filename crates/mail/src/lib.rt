@@ -1,4 +1,6 @@
 // The mail: what a step sends, and the slots where messages wait for any machine that has them.
+#![tactic(auto)]
+
 use tables::Message;
 
 pub mod posts; // posts.rt: messages that a step sends

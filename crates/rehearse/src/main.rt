@@ -1,4 +1,6 @@
 // Runs a schedule: each line of standard input is a call on one of two machines, answered by a line on standard output.
+#![tactic(auto)]
+
 ghost use Rattle.std.specs.Prelude.{◌≡◌, true, false, ◌+◌, ◌≤◌, length};
 ghost use Rattle.schedule.specs.Text.{answer_text};
 ghost use Rattle.schedule.specs.Inner.{Printed};

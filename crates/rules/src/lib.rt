@@ -1,4 +1,6 @@
 // The rules of directory, replica and client, document 01, "Steps".
+#![tactic(auto)]
+
 use sets::Tag;
 
 pub mod directory; // directory.rt: kinds 1 to 4 and 14

@@ -1,4 +1,6 @@
 // The lines of a schedule, document 01, "The rehearsal program", and document 02, [13]: bytes into commands, answers into bytes.
+#![tactic(auto)]
+
 pub mod reading; // reading.rt: the command that a line is
 pub mod input; // input.rt: an input that comes in chunks, cut into lines
 pub mod printing; // printing.rt: the line that answers a command

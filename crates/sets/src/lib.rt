@@ -1,4 +1,6 @@
 // Tags and sets of parties, document 01, "Numbers and parties".
+#![tactic(auto)]
+
 ghost use Rattle.std.specs.Prelude.{◌≡◌, ◌≤◌};
 ghost use Rattle.sets.specs.Tags.{against};
 ghost use Rattle.sets.specs.Sets.{has, size, join, only, with, all};

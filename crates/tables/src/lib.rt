@@ -1,4 +1,6 @@
 // The tables of a machine, document 01, "The tables": its rows as structs, and the places where they stand in the lent buffer.
+#![tactic(auto)]
+
 use sets::Tag;
 
 pub mod blank; // blank.rt: rows and pages not in use
