@@ -5,7 +5,7 @@ ghost use Rattle.inspect.specs.Inner.{Few, limits_of, kind_table, phase_table};
 use crate::fields;
 use tables::Conf;
 
-#[derive(Drop)]
+#[derive(Clone, Copy)]
 pub(crate) struct Limits {
     pub first: u32, // at most: a message's sender, a client's answered set
     pub second: u32, // a message's receiver

@@ -20,7 +20,7 @@ mod others; // others.rt: gossip, tidy, crash
 mod counting; // counting.rt: report
 
 // Report's answer.
-#[derive(Drop)]
+#[derive(Clone, Copy)]
 pub struct Counts {
     pub code: u32,
     pub waiting: u32,

@@ -14,7 +14,7 @@ use schedule::{Command, input, printing};
 mod calls; // calls.rt: the call that a line is, on the machine that it names
 
 // What a call gave: its answer, the first word of its page, and whether it was made on the wide machine.
-#[derive(Drop)]
+#[derive(Clone, Copy)]
 struct Reply {
     answer: Answer,
     word: u32,
@@ -22,7 +22,7 @@ struct Reply {
 }
 
 // Where the program stands.
-#[derive(Drop)]
+#[derive(Clone, Copy)]
 struct State {
     lines: u64, // the lines so far
     len: usize, // the pending line's length

@@ -12,7 +12,7 @@ pub mod request; // request.rt: the client's row afterwards, and what it sends
 pub mod answers; // answers.rt: codes and values
 
 // What a reply leads to at a client.
-#[derive(Drop)]
+#[derive(Clone, Copy)]
 pub enum Outcome {
     Waiting,
     Next(Tag),
@@ -23,7 +23,7 @@ pub enum Outcome {
 }
 
 // What a step hands back.
-#[derive(Drop)]
+#[derive(Clone, Copy)]
 pub struct Answer {
     pub code: u32,
     pub client: u32,

@@ -54,7 +54,7 @@ fn entry_in(l: &[u32], j: usize) -> Entry
 }
 
 // What a read finds: an entry, and the mark that says which one.
-#[derive(Drop)]
+#[derive(Clone, Copy)]
 pub struct Found {
     pub entry: Entry,
     pub mark: u32,

@@ -6,7 +6,7 @@ pub mod input; // input.rt: an input that comes in chunks, cut into lines
 pub mod printing; // printing.rt: the line that answers a command
 
 // What a line says: the numbers of its fields, in their order.
-#[derive(Drop)]
+#[derive(Clone, Copy)]
 pub enum Command {
     SetUp(u32, u32, u32, u32, u32, u32, u32, u32),
     Columns(u32, u32, u32, u32, u32, u32, u32),
@@ -20,14 +20,14 @@ pub enum Command {
 }
 
 // A number and the place after it, where there is one.
-#[derive(Drop)]
+#[derive(Clone, Copy)]
 pub enum Found {
     Number(u32, usize),
     Nothing,
 }
 
 // How far a chunk was read: the pending line's length, the next place, and whether a line end was met there.
-#[derive(Drop)]
+#[derive(Clone, Copy)]
 pub struct Fed {
     pub len: usize,
     pub at: usize,

@@ -6,7 +6,7 @@ ghost use Rattle.sets.specs.Tags.{against};
 ghost use Rattle.sets.specs.Sets.{has, size, join, only, with, all};
 
 // A write's number and the client that chose it.
-#[derive(Drop)]
+#[derive(Clone, Copy)]
 pub struct Tag {
     pub number: u32,
     pub client: u32,
@@ -19,7 +19,7 @@ pub const FIRST: Tag = Tag {
 };
 
 // How a tag stands against another.
-#[derive(Drop)]
+#[derive(Clone, Copy)]
 pub enum Order {
     Lower,
     Same,

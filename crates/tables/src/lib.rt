@@ -9,7 +9,7 @@ pub mod places; // places.rt: where each table stands in the whole buffer, and t
 pub mod search; // search.rt: free entries and tags
 
 // How a machine lies in the buffer: the directory rows that it has room for. All later words move by them.
-#[derive(Drop)]
+#[derive(Clone, Copy)]
 pub struct Layout {
     pub directories: usize,
 }
@@ -21,7 +21,7 @@ pub const BASE: Layout = Layout { directories: 5 };
 pub const WIDE: Layout = Layout { directories: 16 };
 
 // The numbers of words 0 to 7. A machine has the counts rq and wq, or columns, and 0 for what it has not.
-#[derive(Drop)]
+#[derive(Clone, Copy)]
 pub struct Conf {
     pub clients: u32,
     pub directories: u32,
@@ -33,7 +33,7 @@ pub struct Conf {
     pub columns: u32,
 }
 
-#[derive(Drop)]
+#[derive(Clone, Copy)]
 pub struct Client {
     pub down: u32,
     pub phase: u32,
@@ -45,14 +45,14 @@ pub struct Client {
     pub page: [u32; 16],
 }
 
-#[derive(Drop)]
+#[derive(Clone, Copy)]
 pub struct Directory {
     pub down: u32,
     pub tag: Tag,
     pub set: u32,
 }
 
-#[derive(Drop)]
+#[derive(Clone, Copy)]
 pub struct Entry {
     pub state: u32,
     pub tag: Tag,
@@ -60,7 +60,7 @@ pub struct Entry {
     pub page: [u32; 16],
 }
 
-#[derive(Drop)]
+#[derive(Clone, Copy)]
 pub struct Message {
     pub kind: u32,
     pub sender: u32,
@@ -73,7 +73,7 @@ pub struct Message {
 }
 
 // Who sends or receives a message.
-#[derive(Drop)]
+#[derive(Clone, Copy)]
 pub enum Party {
     Nobody,
     AClient,
