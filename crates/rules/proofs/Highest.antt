@@ -51,7 +51,7 @@ module _ (t : Tag) (e : Entry) where
 
 -- ---- the least tag that no secured entry is above
 
-pub highest_least : {es : List Entry} {u : Tag} → All (Below u) es → highest es ≼ u
+pub highest_least : {u : Tag} {es : List Entry} → All (Below u) es → highest es ≼ u
 unfolding highest
 highest_least {u = u} none = first_least u
 highest_least (cons {x = e} {xs = es} b bs) = higher_least (highest es) e (highest_least bs) b
