@@ -1,0 +1,74 @@
+use mathlib.Core.Path.{◌≡◌}
+use Prim.Native.Nat.{ℕ, ◌≤◌, ◌<◌}
+use native.Mathlib.Omega.{arith}
+use borrow.Author.Tests.{le-ltb, lt-ltb}
+use Rattle.tables.specs.declared.Party.TheVariants.{Nobody, AClient, ADirectory, AReplica}
+use Rattle.tables.specs.Kinds.{receiver_of}
+use Rattle.machine.proofs.receiving.receiver_of.Goals as goal
+
+module _ (n : ℕ) where
+  below : n < 1 → Nobody ≡ receiver_of n
+  unfolding receiver_of
+  below h = simp (lt-ltb _ _ h)
+
+  from_one : 1 ≤ n → n < 5 → ADirectory ≡ receiver_of n
+  unfolding receiver_of
+  from_one l h = simp (le-ltb _ _ l, lt-ltb _ _ h)
+
+  from-five : 5 ≤ n → n < 9 → AClient ≡ receiver_of n
+  unfolding receiver_of
+  from-five l h = simp (le-ltb n 1 (omega arith), le-ltb _ _ l, lt-ltb _ _ h)
+
+  from-nine : 9 ≤ n → n < 12 → AReplica ≡ receiver_of n
+  unfolding receiver_of
+  from-nine l h = simp (le-ltb n 1 (omega arith), le-ltb n 5 (omega arith), le-ltb _ _ l, lt-ltb _ _ h)
+
+  from-twelve : 12 ≤ n → n < 14 → AClient ≡ receiver_of n
+  unfolding receiver_of
+  from-twelve l h = simp (le-ltb n 1 (omega arith), le-ltb n 5 (omega arith), le-ltb n 9 (omega arith), le-ltb _ _ l, lt-ltb _ _ h)
+
+  fourteen : n ≡ 14 → ADirectory ≡ receiver_of n
+  unfolding receiver_of
+  fourteen e = rw e
+
+  fifteen : n ≡ 15 → AReplica ≡ receiver_of n
+  unfolding receiver_of
+  fifteen e = rw e
+
+  above : 14 ≤ n → (n ≡ 14 → ⊥) → (n ≡ 15 → ⊥) → Nobody ≡ receiver_of n
+  unfolding receiver_of
+  above l p q =
+      let h : 16 ≤ n = omega (arith, p, q) in
+      simp (
+        le-ltb n 1 (omega arith),
+        le-ltb n 5 (omega arith),
+        le-ltb n 9 (omega arith),
+        le-ltb n 12 (omega arith),
+        le-ltb n 14 (omega arith),
+        le-ltb n 15 (omega arith),
+        le-ltb n 16 h,
+      )
+
+pub returns-in-5-to-8 : goal.returns-in-5-to-8
+returns-in-5-to-8 c = search from-five
+
+pub returns-in-5-to-8-2 : goal.returns-in-5-to-8-2
+returns-in-5-to-8-2 c = search from-twelve
+
+pub returns-in_default : goal.returns-in_default
+returns-in_default c = search below
+
+pub returns-in_default-2 : goal.returns-in_default-2
+returns-in_default-2 c = search above
+
+pub returns-in-9-to-11 : goal.returns-in-9-to-11
+returns-in-9-to-11 c = search fifteen
+
+pub returns-in-9-to-11-2 : goal.returns-in-9-to-11-2
+returns-in-9-to-11-2 c = search from-nine
+
+pub returns-in-1-to-4 : goal.returns-in-1-to-4
+returns-in-1-to-4 c = search fourteen
+
+pub returns-in-1-to-4-2 : goal.returns-in-1-to-4-2
+returns-in-1-to-4-2 c = search from_one
