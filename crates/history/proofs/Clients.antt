@@ -98,7 +98,7 @@ module _ (M : Machine) (x : Message) (k : Timely (client_at M x.receiver) x) whe
         lower l (unheard t s a) = absurd (≺_irrefl (≺-≼ (rw t at l) (first_least x.tag)))
 
         same : x.tag ≡ w.tag → Gathering M w.tag w.replicas w.answered → Gathering M w.tag (join w.replicas x.set) a
-        same l (gathered h) = gathered (told_more h (λ r q. subst (CoversAt M r) l (u.covers r q)))
+        same l (gathered h) = gathered (told_more _ h (λ r q. subst (CoversAt M r) l (u.covers r q)))
         same l (unheard t s a) = gathered (rw (s, or_zero_l x.set) (subst (λ (z : Tag). Told M z x.set) l u))
 
     reach : (p : ℕ) → w.phase ≡ p → Reached M w.tag w.answered → While M x.receiver p x.number (λ t. t ≼ (directory_at M x.sender).tag)

@@ -23,8 +23,8 @@ use Rattle.history.proofs.Invariant.{CoversAt, Told, While, Fact, MessageOk}
 use Rattle.history.proofs.Later.{Later, settled, told_later, past_later, while_later}
 use Rattle.history.proofs.Keeping.{unsent, to_one}
 
-pub told_more : {M : Machine} {t : Tag} {a b : ℕ} → Told M t a → ((r : ℕ) → r ∈ b → CoversAt M r t) → Told M t (join a b)
-told_more {a = a} {b = b} h g =
+pub told_more : {M : Machine} {t : Tag} {a : ℕ} (b : ℕ) → Told M t a → ((r : ℕ) → r ∈ b → CoversAt M r t) → Told M t (join a b)
+told_more {a = a} b h g =
     record { enough = le_trans h.enough (size_join_left a b); covers = λ r k. ⊎_elim (λ u. h.covers r u) (λ u. g r u) (join_in a b r k) }
 
 module _ (M : Machine) (x : Message) (g : MessageOk M x) (h : Told M (directory_at M x.receiver).tag (directory_at M x.receiver).set) where
@@ -40,10 +40,10 @@ module _ (M : Machine) (x : Message) (g : MessageOk M x) (h : Told M (directory_
   directory_ok = go (directory_view M.conf.f d x)
     where
       go : {y : Directory} → DirectoryView M.conf.f d x y → Told M y.tag y.set
-      go (joins t e) = told_more h (λ r k. subst (CoversAt M r) e ((message_told t).covers r k))
+      go (joins t e) = told_more _ h (λ r k. subst (CoversAt M r) e ((message_told t).covers r k))
       go (takes t _ _) = message_told t
       go (adds t e) =
-          told_more h
+          told_more _ h
           (λ r k. subst (λ (q : ℕ). CoversAt M q d.tag) (sym (only_in r x.sender k)) (subst (CoversAt M x.sender) e (subst (Fact M x) (eqb→eq x.kind 14 t) g)))
       go (stays _) = h
 
