@@ -57,18 +57,18 @@ module _ {P : ℕ → Type 0} where
 abbrev pub UpTo : (b s : ℕ) → Type 0
 UpTo b s = (p : ℕ) → p ∈ s → p ≤ b
 
-pub up_to_with : {a b q : ℕ} → UpTo b a → b < q → UpTo q (with a q)
-up_to_with {a} {b} {q} f l p k = ⊎_elim (λ (u : p ∈ a). omega (arith, f p u)) (λ (u : p ≡ q). omega arith) (with_in a q p k)
+pub up_to_with : (a : ℕ) {b q : ℕ} → UpTo b a → b < q → UpTo q (with a q)
+up_to_with a {b} {q} f l p k = ⊎_elim (λ (u : p ∈ a). omega (arith, f p u)) (λ (u : p ≡ q). omega arith) (with_in a q p k)
 
-pub size_above : {a b q : ℕ} → UpTo b a → b < q → size (with a q) ≡ size a + 1
-size_above {a} {b} {q} f l = size_new a q (omega arith) (λ k. omega (arith, f q k))
+pub size_above : (a : ℕ) {b q : ℕ} → UpTo b a → b < q → size (with a q) ≡ size a + 1
+size_above a {b} {q} f l = size_new a q (omega arith) (λ k. omega (arith, f q k))
 
-size_gather : {P : ℕ → Type 0} {a b : ℕ} {qs : List ℕ} → UpTo b a → Rising P b qs → size (gather a qs) ≡ size a + length qs
-size_gather f end = omega arith
-size_gather f (next l p r) = omega (arith, size_gather (up_to_with f l) r, size_above f l)
+size_gather : {P : ℕ → Type 0} (a : ℕ) {b : ℕ} {qs : List ℕ} → UpTo b a → Rising P b qs → size (gather a qs) ≡ size a + length qs
+size_gather a f end = omega arith
+size_gather a f (next {q} l p r) = omega (arith, size_gather (with a q) (up_to_with a f l) r, size_above a f l)
 
 pub size_set : {P : ℕ → Type 0} {qs : List ℕ} → Rising P 0 qs → size (set_of qs) ≡ length qs
-size_set r = omega (arith, size_gather (λ p k. absurd (none_in p k)) r, size_none)
+size_set r = omega (arith, size_gather 0 (λ p k. absurd (none_in p k)) r, size_none)
 
 gather_old : (a : ℕ) (qs : List ℕ) (p : ℕ) → p ∈ a → p ∈ gather a qs
 gather_old a [] p h = h
@@ -83,14 +83,14 @@ gather_in a (q ∷ qs) p h =
 pub set_in : (qs : List ℕ) (p : ℕ) → p ∈ set_of qs → Memᴰ p qs
 set_in qs p h = ⊎_elim (λ k. absurd (none_in p k)) (λ m. m) (gather_in 0 qs p h)
 
-pub in_gather : (a : ℕ) {b p : ℕ} {P : ℕ → Type 0} {qs : List ℕ} → Rising P b qs → Memᴰ p qs → p ∈ gather a qs
+pub in_gather : {P : ℕ → Type 0} (a : ℕ) {b p : ℕ} {qs : List ℕ} → Rising P b qs → Memᴰ p qs → p ∈ gather a qs
 in_gather a end m = absurd (Memᴰ.not-nil m)
 in_gather a {b} {p} (next {q} {qs} l h r) m =
     ⊎_elim (λ (e : p ≡ q). gather_old (with a q) qs p (rw e (in_with_new a q (omega arith)))) (λ k. in_gather (with a q) r k) (Memᴰ.cases_cons m)
 
-pub gather_lt : {a b : ℕ} (n : ℕ) {P : ℕ → Type 0} {qs : List ℕ} → ((q : ℕ) → P q → q ≤ n) → a < 2 ^ n → Rising P b qs → gather a qs < 2 ^ n
+pub gather_lt : {P : ℕ → Type 0} {a b : ℕ} (n : ℕ) {qs : List ℕ} → ((q : ℕ) → P q → q ≤ n) → a < 2 ^ n → Rising P b qs → gather a qs < 2 ^ n
 gather_lt n f h end = h
-gather_lt {a} n f h (next {q} l p r) = gather_lt n f (with_lt n a q h (f q p)) r
+gather_lt {a = a} n f h (next {q} l p r) = gather_lt {a = with a q} n f (with_lt n a q h (f q p)) r
 
 -- ---- so many that pass
 

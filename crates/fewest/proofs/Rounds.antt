@@ -43,6 +43,6 @@ module _ {B : Machine} (quorums : Quorums B.conf) {c E p : ℕ} (h : Phase p) {c
   round (q ∷ r ∷ qs) {w} {N} z o u m e (next l d ds) =
       subst (λ (k : ℕ). Ends code c k N) (omega arith)
       (served h o d (fails (has w.answered q) (λ k. omega (arith, u q k)))
-      (λ L R due. waited h R (too_few B.conf quorums p (with w.answered q) (omega (arith, m (omega arith), size_above u l)))
-      (λ K v o' a i due'. round (r ∷ qs) (omega arith) o' (rw a (up_to_with u l)) (λ _. rw a (omega (arith, m (omega arith), size_above u l))) (rw a e)
+      (λ L R due. waited h R (too_few B.conf quorums p (with w.answered q) (omega (arith, m (omega arith), size_above w.answered u l)))
+      (λ K v o' a i due'. round (r ∷ qs) (omega arith) o' (rw a (up_to_with w.answered u l)) (λ _. rw a (omega (arith, m (omega arith), size_above w.answered u l))) (rw a e)
       (rising_map (λ z k s. subst (λ (j : ℕ). Due B c p j K z) (sym i) (due' z (due z (λ e. omega arith) s))) ds))))
