@@ -1,5 +1,6 @@
 // FULL: a replica has room for 12 tags, the first one among them.
 use crate::{say, wear};
+use std::io;
 
 fn writes(m: &mut [u32], times: u32) -> u32 {
     let mut last = 0;
@@ -11,14 +12,14 @@ fn writes(m: &mut [u32], times: u32) -> u32 {
     last
 }
 
-fn fill(m: &mut [u32]) {
+fn fill(rt: &impl Print, m: &mut [u32]) -> io::Result<()> {
     wear::set_up(m, 1000);
-    say::line(b"the 12th tag at a replica", writes(m, 11));
-    say::line(b"the 13th tag at a replica", wear::write(m));
+    say::line(rt, "the 12th tag at a replica", writes(m, 11))?;
+    say::line(rt, "the 13th tag at a replica", wear::write(m))
 }
 
-pub fn run(m: &mut [u32]) {
-    fill(m);
-    say::line(b"tidy", machine::tidy(m, 1).code);
-    say::line(b"the 13th tag after tidy", wear::deliver(m));
+pub fn run(rt: &impl Print, m: &mut [u32]) -> io::Result<()> {
+    fill(rt, m)?;
+    say::line(rt, "tidy", machine::tidy(m, 1).code)?;
+    say::line(rt, "the 13th tag after tidy", wear::deliver(m))
 }

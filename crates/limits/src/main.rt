@@ -8,13 +8,15 @@ mod fill; // fill.rt: the 13th tag
 mod tell; // tell.rt: report
 mod wide; // wide.rt: directories in columns
 
-fn main() {
+use std::io;
+
+fn main(rt: HostRuntime) -> io::Result<()> {
     let mut m = [0u32; 5040];
-    set_up::numbers(&mut m);
-    set_up::buffers(&mut m);
-    set_up::pages(&mut m);
-    wear::run(&mut m);
-    fill::run(&mut m);
-    tell::run(&mut m);
-    wide::run(&mut m);
+    set_up::numbers(&rt, &mut m)?;
+    set_up::buffers(&rt, &mut m)?;
+    set_up::pages(&rt, &mut m)?;
+    wear::run(&rt, &mut m)?;
+    fill::run(&rt, &mut m)?;
+    tell::run(&rt, &mut m)?;
+    wide::run(&rt, &mut m)
 }

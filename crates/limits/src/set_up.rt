@@ -2,6 +2,7 @@
 ghost use Rattle.std.specs.Prelude.{◌≤◌, length};
 
 use crate::say;
+use std::io;
 use tables::Conf;
 
 pub fn conf(directories: u32, replicas: u32, f: u32, rq: u32, wq: u32, top: u32) -> Conf {
@@ -21,19 +22,19 @@ fn code(m: &mut [u32], k: Conf) -> u32 {
     machine::set_up(m, k, &[7u32; 16]).code
 }
 
-fn quorums(m: &mut [u32]) {
-    say::line(b"nd 3, rq 1, wq 2", code(m, conf(3, 3, 1, 1, 2, 9)));
-    say::line(b"nd 3, rq 2, wq 2", code(m, conf(3, 3, 1, 2, 2, 9)));
+fn quorums(rt: &impl Print, m: &mut [u32]) -> io::Result<()> {
+    say::line(rt, "nd 3, rq 1, wq 2", code(m, conf(3, 3, 1, 1, 2, 9)))?;
+    say::line(rt, "nd 3, rq 2, wq 2", code(m, conf(3, 3, 1, 2, 2, 9)))
 }
 
-fn replicas(m: &mut [u32]) {
-    say::line(b"nr 2 with f 1", code(m, conf(3, 2, 1, 2, 2, 9)));
-    say::line(b"nr 3 with f 1", code(m, conf(3, 3, 1, 2, 2, 9)));
+fn replicas(rt: &impl Print, m: &mut [u32]) -> io::Result<()> {
+    say::line(rt, "nr 2 with f 1", code(m, conf(3, 2, 1, 2, 2, 9)))?;
+    say::line(rt, "nr 3 with f 1", code(m, conf(3, 3, 1, 2, 2, 9)))
 }
 
-pub fn numbers(m: &mut [u32]) {
-    quorums(m);
-    replicas(m);
+pub fn numbers(rt: &impl Print, m: &mut [u32]) -> io::Result<()> {
+    quorums(rt, m)?;
+    replicas(rt, m)
 }
 
 fn read_in(m: &mut [u32], words: usize) -> u32
@@ -49,27 +50,37 @@ fn code_in(m: &mut [u32], words: usize) -> u32
 }
 
 // The machine is good before each call, so that only the length can be refused.
-pub fn buffers(m: &mut [u32])
+pub fn buffers(rt: &impl Print, m: &mut [u32]) -> io::Result<()>
     requires { 4992 ≤ length m.old }
 {
-    say::line(b"start read in a buffer of 4,991 words", read_in(m, 4991));
-    say::line(b"start read in a buffer of 4,992 words", read_in(m, 4992));
-    say::line(b"set-up in a buffer of 4,991 words", code_in(m, 4991));
+    say::line(
+        rt,
+        "start read in a buffer of 4,991 words",
+        read_in(m, 4991),
+    )?;
+    say::line(
+        rt,
+        "start read in a buffer of 4,992 words",
+        read_in(m, 4992),
+    )?;
+    say::line(rt, "set-up in a buffer of 4,991 words", code_in(m, 4991))
 }
 
 fn start(m: &mut [u32], page: &[u32]) -> u32 {
     machine::start_write(m, 2, page).code
 }
 
-pub fn pages(m: &mut [u32]) {
+pub fn pages(rt: &impl Print, m: &mut [u32]) -> io::Result<()> {
     let page = [9u32; 17];
     say::line(
-        b"start write with a page of 15 words",
+        rt,
+        "start write with a page of 15 words",
         start(m, &page[..15]),
-    );
-    say::line(b"start write with a page of 17 words", start(m, &page));
+    )?;
+    say::line(rt, "start write with a page of 17 words", start(m, &page))?;
     say::line(
-        b"start write with a page of 16 words",
+        rt,
+        "start write with a page of 16 words",
         start(m, &page[..16]),
-    );
+    )
 }

@@ -1,5 +1,6 @@
 // WORN: a start with message number + 3 above top.
 use crate::say;
+use std::io;
 use tables::Conf;
 
 // One client, one directory, one replica.
@@ -55,7 +56,7 @@ fn after_write(m: &mut [u32], top: u32) -> u32 {
 }
 
 // A write uses three message numbers.
-pub fn run(m: &mut [u32]) {
-    say::line(b"start with message number top - 3", after_write(m, 6));
-    say::line(b"start with message number top - 2", after_write(m, 5));
+pub fn run(rt: &impl Print, m: &mut [u32]) -> io::Result<()> {
+    say::line(rt, "start with message number top - 3", after_write(m, 6))?;
+    say::line(rt, "start with message number top - 2", after_write(m, 5))
 }
