@@ -4,6 +4,7 @@ ghost use Rattle.std.specs.Prelude.{◌≤◌};
 use crate::show;
 use crate::tags::tag;
 use rules::{Outcome, client};
+use std::io;
 use tables::{Client, Conf, Message};
 
 // Client 1, in phase 4 of a write, gets the one reply that it waits for, with number n.
@@ -43,33 +44,29 @@ fn hears(top: u32, n: u32) -> Outcome
     client::outcome_of(k, 1, w, x)
 }
 
-fn outcome(o: Outcome) {
+fn outcome(rt: &impl Print, o: Outcome) -> io::Result<()> {
     match o {
-        Outcome::Waiting => show::text(b"waiting"),
+        Outcome::Waiting => show::text(rt, "waiting"),
         Outcome::Next(t) => {
-            show::text(b"number ");
-            show::number(t.number)
+            show::text(rt, "number ")?;
+            show::number(rt, t.number)
         }
-        Outcome::ReadEnded(_, _) => show::text(b"READ ENDED"),
-        Outcome::WriteEnded(_) => show::text(b"WRITE ENDED"),
-        Outcome::Spent => show::text(b"SPENT"),
-        Outcome::Stale => show::text(b"STALE"),
+        Outcome::ReadEnded(_, _) => show::text(rt, "READ ENDED"),
+        Outcome::WriteEnded(_) => show::text(rt, "WRITE ENDED"),
+        Outcome::Spent => show::text(rt, "SPENT"),
+        Outcome::Stale => show::text(rt, "STALE"),
     }
 }
 
-fn greatest(top: u32, n: u32)
+fn greatest(rt: &impl Print, top: u32, n: u32) -> io::Result<()>
     requires { 3 ≤ top }
 {
-    show::text(b"12 top ");
-    show::number(top);
-    show::text(b", greatest number ");
-    show::number(n);
-    show::text(b": ");
-    outcome(hears(top, n));
-    show::text(b"\n");
+    print!(rt; "12 top {top}, greatest number {n}: ")?;
+    outcome(rt, hears(top, n))?;
+    show::text(rt, "\n")
 }
 
-pub fn run() {
-    greatest(3, 3);
-    greatest(3, 2);
+pub fn run(rt: &impl Print) -> io::Result<()> {
+    greatest(rt, 3, 3)?;
+    greatest(rt, 3, 2)
 }

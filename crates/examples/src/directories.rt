@@ -5,6 +5,7 @@ ghost use Rattle.rules.specs.Inner.{DirectoryAble};
 use crate::show;
 use crate::tags::tag;
 use sets::{Order, Tag};
+use std::io;
 use tables::{Directory, Message};
 
 fn d() -> Directory {
@@ -27,26 +28,27 @@ fn same_row(a: Directory, b: Directory) -> bool {
 }
 
 // D's row afterwards; where it is as before, whether it replied.
-fn outcome(after: Directory, to: u32) {
+fn outcome(rt: &impl Print, after: Directory, to: u32) -> io::Result<()> {
     if !same_row(d(), after) {
-        show::tag(after.tag);
-        show::text(b", ");
-        show::set(after.set);
-        return;
+        show::tag(rt, after.tag)?;
+        show::text(rt, ", ")?;
+        return show::set(rt, after.set);
     }
-    show::text(b"no change");
-    if !(to == 0) {
-        show::text(b", reply");
+    show::text(rt, "no change")?;
+    if to == 0 {
+        Ok(())
+    } else {
+        show::text(rt, ", reply")
     }
 }
 
-fn takes(x: Message)
+fn takes(rt: &impl Print, x: Message) -> io::Result<()>
     requires { DirectoryAble 1 x }
 {
     let after = rules::directory::after(1, d(), x);
     let post = rules::directory::post(d(), x);
-    outcome(after, post.to);
-    show::text(b"\n");
+    outcome(rt, after, post.to)?;
+    show::text(rt, "\n")
 }
 
 fn message(kind: u32, sender: u32, t: Tag, set: u32, number: u32) -> Message
@@ -66,29 +68,27 @@ fn message(kind: u32, sender: u32, t: Tag, set: u32, number: u32) -> Message
 }
 
 // Wwrite with tag t and set s, from client 1.
-fn wwrite(n: u32, t: Tag, s: u32) {
-    show::number(n);
-    show::text(b" D takes wwrite ");
-    show::tag(t);
-    show::text(b", ");
-    show::set(s);
-    show::text(b": ");
-    takes(message(4, 1, t, s, 1));
+fn wwrite(rt: &impl Print, n: u32, t: Tag, s: u32) -> io::Result<()> {
+    print!(rt; "{n} D takes wwrite ")?;
+    show::tag(rt, t)?;
+    show::text(rt, ", ")?;
+    show::set(rt, s)?;
+    show::text(rt, ": ")?;
+    takes(rt, message(4, 1, t, s, 1))
 }
 
 // Notice with tag t, from replica 3.
-fn notice(n: u32, t: Tag) {
-    show::number(n);
-    show::text(b" D takes notice ");
-    show::tag(t);
-    show::text(b" from 3: ");
-    takes(message(14, 3, t, 0, 0));
+fn notice(rt: &impl Print, n: u32, t: Tag) -> io::Result<()> {
+    print!(rt; "{n} D takes notice ")?;
+    show::tag(rt, t)?;
+    show::text(rt, " from 3: ")?;
+    takes(rt, message(14, 3, t, 0, 0))
 }
 
-pub fn run() {
-    wwrite(3, tag(3, 1), 0b110);
-    wwrite(4, tag(2, 2), 0b110);
-    wwrite(5, tag(4, 1), 0b100);
-    wwrite(6, tag(4, 1), 0b110);
-    notice(7, tag(4, 1));
+pub fn run(rt: &impl Print) -> io::Result<()> {
+    wwrite(rt, 3, tag(3, 1), 0b110)?;
+    wwrite(rt, 4, tag(2, 2), 0b110)?;
+    wwrite(rt, 5, tag(4, 1), 0b100)?;
+    wwrite(rt, 6, tag(4, 1), 0b110)?;
+    notice(rt, 7, tag(4, 1))
 }

@@ -9,11 +9,13 @@ mod replicas; // replicas.rt: examples 8 to 11, FULL
 mod clients; // clients.rt: example 12
 mod ranges; // ranges.rt: the numbers
 
-fn main() {
-    tags::run();
-    directories::run();
-    replicas::run();
-    clients::run();
-    ranges::run();
-    replicas::run_full();
+use std::io;
+
+fn main(rt: HostRuntime) -> io::Result<()> {
+    tags::run(&rt)?;
+    directories::run(&rt)?;
+    replicas::run(&rt)?;
+    clients::run(&rt)?;
+    ranges::run(&rt)?;
+    replicas::run_full(&rt)
 }

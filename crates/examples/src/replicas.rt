@@ -5,6 +5,7 @@ use crate::show;
 use crate::tags::tag;
 use rules::{replica, tidy};
 use sets::Tag;
+use std::io;
 use tables::{Entry, Message};
 
 fn entry(state: u32, t: Tag) -> Entry {
@@ -17,60 +18,57 @@ fn entry(state: u32, t: Tag) -> Entry {
 }
 
 // The replica and its number, as a case begins.
-fn begin(n: u32, l: &[u32])
+fn begin(rt: &impl Print, n: u32, l: &[u32]) -> io::Result<()>
     requires { 240 ≤ length l.now }
 {
-    show::number(n);
-    show::text(b" ");
-    show::entries(l);
+    print!(rt; "{n} ")?;
+    show::entries(rt, l)
 }
 
-fn read(n: u32, l: &[u32], t: Tag)
+fn read(rt: &impl Print, n: u32, l: &[u32], t: Tag) -> io::Result<()>
     requires { 240 ≤ length l.now }
 {
-    begin(n, l);
-    show::text(b": read ");
-    show::tag(t);
-    show::text(b": ");
+    begin(rt, n, l)?;
+    show::text(rt, ": read ")?;
+    show::tag(rt, t)?;
+    show::text(rt, ": ")?;
     let found = replica::read_in(l, t);
     let e = found.entry;
-    show::tag(e.tag);
-    show::text(b", mark ");
-    show::number(found.mark);
-    show::text(b"\n");
+    show::tag(rt, e.tag)?;
+    println!(rt; ", mark {}", found.mark)
 }
 
-fn tidied(n: u32, l: &mut [u32])
+fn tidied(rt: &impl Print, n: u32, l: &mut [u32]) -> io::Result<()>
     requires { 240 ≤ length l.old }
 {
-    begin(n, l);
+    begin(rt, n, l)?;
     tidy::tidy_in(l);
-    show::text(b": tidy: ");
-    show::entries(l);
-    show::text(b"\n");
+    show::text(rt, ": tidy: ")?;
+    show::entries(rt, l)?;
+    show::text(rt, "\n")
 }
 
-fn reads() {
+fn reads(rt: &impl Print) -> io::Result<()> {
     let mut l = [0u32; 240];
     replica::put_in(&mut l, 0, entry(2, tag(0, 0)));
     replica::put_in(&mut l, 1, entry(1, tag(2, 1)));
-    read(8, &l, tag(2, 1));
-    read(9, &l, tag(1, 1));
+    read(rt, 8, &l, tag(2, 1))?;
+    read(rt, 9, &l, tag(1, 1))
 }
 
 // Entry 1 is (0,0), secured; the next two have these states and tags.
-fn tidy_three(n: u32, second: Entry, third: Entry) {
+fn tidy_three(rt: &impl Print, n: u32, second: Entry, third: Entry) -> io::Result<()> {
     let mut l = [0u32; 240];
     replica::put_in(&mut l, 0, entry(2, tag(0, 0)));
     replica::put_in(&mut l, 1, second);
     replica::put_in(&mut l, 2, third);
-    tidied(n, &mut l);
+    tidied(rt, n, &mut l)
 }
 
-pub fn run() {
-    reads();
-    tidy_three(10, entry(1, tag(2, 1)), entry(1, tag(3, 1)));
-    tidy_three(11, entry(2, tag(2, 1)), entry(1, tag(1, 2)));
+pub fn run(rt: &impl Print) -> io::Result<()> {
+    reads(rt)?;
+    tidy_three(rt, 10, entry(1, tag(2, 1)), entry(1, tag(3, 1)))?;
+    tidy_three(rt, 11, entry(2, tag(2, 1)), entry(1, tag(1, 2)))
 }
 
 // Write with tag (n,1), from client 1.
@@ -99,22 +97,21 @@ fn fill(l: &mut [u32], n: u32)
 }
 
 // Tag n at a replica that has n − 1, the secured (0,0) among them.
-fn comes(n: u32)
+fn comes(rt: &impl Print, n: u32) -> io::Result<()>
     requires { 2 ≤ n }
 {
     let mut l = [0u32; 240];
     replica::put_in(&mut l, 0, entry(2, tag(0, 0)));
     fill(&mut l, n - 2);
-    show::text(b"tag ");
-    show::number(n);
+    print!(rt; "tag {n}")?;
     if replica::full(&l, write(n)) {
-        show::text(b" at a replica: FULL\n");
+        show::text(rt, " at a replica: FULL\n")
     } else {
-        show::text(b" at a replica: not FULL\n");
+        show::text(rt, " at a replica: not FULL\n")
     }
 }
 
-pub fn run_full() {
-    comes(12);
-    comes(13);
+pub fn run_full(rt: &impl Print) -> io::Result<()> {
+    comes(rt, 12)?;
+    comes(rt, 13)
 }

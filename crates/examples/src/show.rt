@@ -1,80 +1,73 @@
 // Numbers, tags, sets and entries as text.
 ghost use Rattle.std.specs.Prelude.{◌≤◌, length};
 
-use libc::STDOUT_FILENO;
 use sets::Tag;
+use std::io;
 use tables::{Entry, rows};
 
-pub fn text(s: &[u8]) {
-    io::write_all(STDOUT_FILENO, s);
+pub fn text(rt: &impl Print, s: &str) -> io::Result<()> {
+    rt.print(s)
 }
 
-pub fn number(n: u32) {
-    io::print_decimal(STDOUT_FILENO, n as u64);
+pub fn number(rt: &impl Print, n: u32) -> io::Result<()> {
+    rt.print(n)
 }
 
-pub fn tag(t: Tag) {
-    text(b"(");
-    number(t.number);
-    text(b",");
-    number(t.client);
-    text(b")");
+pub fn tag(rt: &impl Print, t: Tag) -> io::Result<()> {
+    print!(rt; "({},{})", t.number, t.client)
 }
 
 // Party p, where it is in s. `more`: a party stands before it; the answer says so of the next.
-fn party(s: u32, p: u32, more: bool) -> bool
+fn party(rt: &impl Print, s: u32, p: u32, more: bool) -> io::Result<bool>
     requires { (1 ≤ p) × (p ≤ 32) }
 {
     if !sets::is_in(s, p) {
-        return more;
+        return Ok(more);
     }
     if more {
-        text(b",");
+        text(rt, ",")?;
     }
-    number(p);
-    true
+    number(rt, p)?;
+    Ok(true)
 }
 
-pub fn set(s: u32) {
-    text(b"{");
+pub fn set(rt: &impl Print, s: u32) -> io::Result<()> {
+    text(rt, "{")?;
     let mut more = false;
-    let mut p = 1;
-    while p <= 32 {
-        more = party(s, p, more);
-        p += 1;
+    for p in 1..=32 {
+        more = party(rt, s, p, more)?;
     }
-    text(b"}");
+    text(rt, "}")
 }
 
-fn state(s: u32) {
+fn state(rt: &impl Print, s: u32) -> io::Result<()> {
     match s {
-        1 => text(b"held "),
-        _ => text(b"secured "),
+        1 => text(rt, "held "),
+        _ => text(rt, "secured "),
     }
 }
 
 // An entry, where it is not free; `more` as for a party.
-fn entry(e: Entry, more: bool) -> bool {
+fn entry(rt: &impl Print, e: Entry, more: bool) -> io::Result<bool> {
     if e.state == 0 {
-        return more;
+        return Ok(more);
     }
     if more {
-        text(b", ");
+        text(rt, ", ")?;
     }
-    state(e.state);
-    tag(e.tag);
-    true
+    state(rt, e.state)?;
+    tag(rt, e.tag)?;
+    Ok(true)
 }
 
 // The entries that are not free, in order.
-pub fn entries(l: &[u32])
+pub fn entries(rt: &impl Print, l: &[u32]) -> io::Result<()>
     requires { 240 ≤ length l.now }
 {
     let mut more = false;
-    let mut j: usize = 0;
-    while j < 12 {
+    for j in 0..12usize {
         let at = j * rows::ENTRY_ROW;
-        more = entry(rows::entry_at(&l[at..]), more);
-        j += 1;
+        more = entry(rt, rows::entry_at(&l[at..]), more)?;
     }
+    Ok(())
 }
