@@ -4,21 +4,22 @@
 
 ghost use Rattle.std.specs.Prelude.{◌≤◌, length};
 
-use libc::{STDIN_FILENO, STDOUT_FILENO};
+use std::io;
+use std::io::{Input, Read};
 use tables::BASE;
 
 mod number; // number.rt: decimal fields
 mod sample; // sample.rt: the two machines
 
 // One answer: the verdict, and the rest of the line.
-fn answer(ok: bool, text: &[u8]) {
+fn answer(rt: &impl Print, ok: bool, text: &[u8]) -> io::Result<()> {
     if ok {
-        io::write_all(STDOUT_FILENO, b"good");
+        rt.write_all(b"good")?;
     } else {
-        io::write_all(STDOUT_FILENO, b"bad ");
+        rt.write_all(b"bad ")?;
     }
-    io::write_all(STDOUT_FILENO, text);
-    io::write_all(STDOUT_FILENO, b"\n");
+    rt.write_all(text)?;
+    rt.write_all(b"\n")
 }
 
 // The verdict on the machine as it is.
@@ -43,28 +44,26 @@ fn with_word(m: &mut [u32], place: usize, value: u32) -> bool
 }
 
 // The answer to one line.
-fn respond(m: &mut [u32], line: &[u8])
+fn respond(rt: &impl Print, m: &mut [u32], line: &[u8]) -> io::Result<()>
     requires { 4992 ≤ length m.old }
 {
     if line.len() == 0 {
-        return;
+        return Ok(());
     }
     if line[0] == b'u' {
         sample::after_set_up(m);
-        answer(is_good(m), &line[1..]);
-        return;
+        return answer(rt, is_good(m), &line[1..]);
     }
     if line[0] == b'r' {
         sample::every_row(m);
-        answer(is_good(m), &line[1..]);
-        return;
+        return answer(rt, is_good(m), &line[1..]);
     }
     let place = number::field(line, 0);
     let from = place.next;
     let value = number::field(line, from);
     let text = value.next;
     let ok = with_word(m, place.value as usize, value.value);
-    answer(ok, &line[text..]);
+    answer(rt, ok, &line[text..])
 }
 
 // The first line end from `from` on, or the end of the text.
@@ -83,20 +82,21 @@ fn line_end(s: &[u8], from: usize) -> usize
 }
 
 // The answers to all lines, in order.
-fn run(m: &mut [u32], input: &[u8])
+fn run(rt: &impl Print, m: &mut [u32], input: &[u8]) -> io::Result<()>
     requires { 4992 ≤ length m.old }
 {
     let mut at = 0;
     while at < input.len() {
         let end = line_end(input, at);
-        respond(m, &input[at..end]);
+        respond(rt, m, &input[at..end])?;
         at = end + 1;
     }
+    Ok(())
 }
 
-fn main() {
+fn main(rt: HostRuntime) -> io::Result<()> {
     let mut m = [0u32; 4992];
-    let mut input = io::large_buffer();
-    let n = io::read_full(STDIN_FILENO, &mut input);
-    run(&mut m, &input[..n]);
+    let mut input = Vec::new(rt.alloc());
+    rt.reader().read_to_end(&mut input)?;
+    run(&rt, &mut m, &input)
 }
