@@ -1,5 +1,6 @@
 -- What the program's functions promise each other: however far they come in the input, what was written and what is still to come is the output.
-use Rattle.std.specs.Prelude.{◌≡◌, true, false, List, [], ◌++◌, ℕ, ◌+◌, ◌≤◌, ◌<◌, min, length, get_or, take, drop}
+use Rattle.std.specs.Prelude.{◌≡◌, true, false, List, [], ◌++◌, ℕ, ◌+◌, ◌≤◌, ◌<◌, min, length, get_or, take, drop, Option, IfSome}
+use Rattle.std.specs.Io.KnownBytes.{Appends}
 use Rattle.schedule.specs.declared.Command.{Command}
 use Rattle.schedule.specs.Input.{Held}
 use Rattle.rehearse.specs.declared.Reply.{Reply}
@@ -59,10 +60,11 @@ pub record Consumed (chunk : List ℕ) (s : State) (m : Machines) (l : List ℕ)
   pub some : min (s.from + 1) (length chunk) ≤ r.from
   pub room : r.at ≤ 65536
 
--- a whole chunk, where the program goes on: the text is what was written out, one output after the other
-pub record Drained (chunk : List ℕ) (s : State) (m : Machines) (l : List ℕ) (r : State) (m' : Machines) (l' : List ℕ) : Type 0 where
+-- a whole chunk: the text is what was written out, one output after the other, and what the writer got
+pub record Drained (chunk : List ℕ) (s : State) (m : Machines) (l : List ℕ) (before : Option (List ℕ)) (r : State) (m' : Machines) (l' : List ℕ) (after : Option (List ℕ)) : Type 0 where
   pub text : List ℕ
-  pub went : r.on ≡ true → (p : List ℕ) → Held p l s.len → Went (stand s m p) [] chunk r m' l' text []
+  pub went : (p : List ℕ) → Held p l s.len → Went (stand s m p) [] chunk r m' l' text []
+  pub written : Appends before after text
 
 -- before the first line
 pub record Fresh (s : State) : Type 0 where
@@ -81,7 +83,7 @@ pub record Reached (l w : List ℕ) (m : Machines) (line : List ℕ) (s : State)
   pub held : Held pending line s.len
   pub taken : Taken start l w (stand s m pending)
 
--- it stands so after some input: which one it was, only the C library could say
+-- it stands so after some input
 pub record Reads (m : Machines) (line : List ℕ) (s : State) : Type 0 where
   pub input : List ℕ
   pub text : List ℕ
@@ -93,3 +95,7 @@ pub record Rehearsed (m w line out : List ℕ) : Type 0 where
   pub reads : Reads (machines state.wide m w) line state
   pub size : ℕ
   pub whole : rehearsal reads.input ≡ reads.text ++ take size out
+
+-- where the bytes of a reader and of a writer are known: the writer got the rehearsal of all that the reader had
+abbrev pub Rehearses : Option (List ℕ) → Option (List ℕ) → Option (List ℕ) → Type 0
+Rehearses input before after = IfSome input (λ l. Appends before after (rehearsal l))

@@ -1,17 +1,24 @@
 // Runs a schedule: each line of standard input is a call on one of two machines, answered by a line on standard output.
 #![tactic(auto)]
 
-ghost use Rattle.std.specs.Prelude.{◌≡◌, true, false, ◌+◌, ◌≤◌, length};
+ghost use Rattle.std.specs.Prelude.{◌≡◌, true, false, ◌+◌, ◌≤◌, ◌<◌, length, take, IfOk, OnOk};
+ghost use Rattle.std.specs.Io.{ReadsAtMost};
+ghost use Rattle.std.specs.Io.KnownBytes.{Consumes, Appends, IsAtEnd};
 ghost use Rattle.schedule.specs.Text.{answer_text};
 ghost use Rattle.schedule.specs.Inner.{Printed};
 ghost use Rattle.rehearse.specs.Rehearsal.{machines, zeros, in_force, following};
-ghost use Rattle.rehearse.specs.Turns.{Buffers, Answered, Turned, Consumed, Drained, Fresh, Ended, Rehearsed};
-
-use libc::STDERR_FILENO;
-use rules::Answer;
-use schedule::{Command, input, printing};
+ghost use Rattle.rehearse.specs.Turns.{Buffers, Answered, Turned, Consumed, Drained, Fresh, Ended, Rehearsed, Rehearses};
 
 mod calls; // calls.rt: the call that a line is, on the machine that it names
+mod failure; // failure.rt: what ends the program before the end of its input
+
+use failure::Failure;
+use rules::Answer;
+use schedule::{Command, input, printing};
+use std::env::{Env, FillError};
+use std::io;
+use std::io::{ErrorKind, Read, Write};
+use std::process::ExitCode;
 
 // What a call gave: its answer, the first word of its page, and whether it was made on the wide machine.
 #[derive(Clone, Copy)]
@@ -133,48 +140,46 @@ fn consume(
     s
 }
 
-// Writes the first bytes of the output; false where that fails.
-fn flush(out: &[u8], at: usize) -> bool
+// Writes the first bytes of the output.
+fn flush<W: Write>(writer: &mut W, out: &[u8], at: usize) -> Result<(), Failure>
     requires { (length out.now ≡ 65536) × (at ≤ 65536) }
+    ensures { OnOk result (Appends (W.contents writer.old) (W.contents writer.new) (take at out.now)) }
 {
-    io::write_all(1, &out[..at])
+    writer.write_all(&out[..at]).map_err(Failure::Writing)
 }
 
-// The same, and writes their answers out: where that fails it does not go on.
-fn pass(
+// The same, and writes their answers.
+fn pass<W: Write>(
+    writer: &mut W,
     m: &mut [u32],
     w: &mut [u32],
     line: &mut [u8],
     out: &mut [u8],
     chunk: &[u8],
     s: State,
-) -> State
+) -> Result<State, Failure>
     requires buffers { Buffers line.old out.old }
     requires from_in_bounds { s.from ≤ length chunk.now }
-    ensures { Consumed chunk.now s (machines s.wide m.old w.old) line.old result (machines result.wide m.new w.new) line.new out.new }
+    ensures consumed { IfOk result (λ r. Consumed chunk.now s (machines s.wide m.old w.old) line.old r (machines r.wide m.new w.new) line.new out.new) }
+    ensures written { IfOk result (λ r. Appends (W.contents writer.old) (W.contents writer.new) (take r.at out.new)) }
 {
     let t = consume(m, w, line, out, chunk, s);
-    State {
-        lines: t.lines,
-        len: t.len,
-        from: t.from,
-        at: t.at,
-        on: flush(out, t.at),
-        wide: t.wide,
-    }
+    flush(writer, out, t.at)?;
+    Ok(t)
 }
 
 // All of a chunk.
-fn drain(
+fn drain<W: Write>(
+    writer: &mut W,
     m: &mut [u32],
     w: &mut [u32],
     line: &mut [u8],
     out: &mut [u8],
     chunk: &[u8],
     s0: State,
-) -> State
+) -> Result<State, Failure>
     requires { Buffers line.old out.old }
-    ensures { Drained chunk.now s0 (machines s0.wide m.old w.old) line.old result (machines result.wide m.new w.new) line.new }
+    ensures { IfOk result (λ r. Drained chunk.now s0 (machines s0.wide m.old w.old) line.old (W.contents writer.old) r (machines r.wide m.new w.new) line.new (W.contents writer.new)) }
 {
     let mut s = State {
         lines: s0.lines,
@@ -184,10 +189,10 @@ fn drain(
         on: true,
         wide: s0.wide,
     };
-    while s.on && s.from < chunk.len() {
-        s = pass(m, w, line, out, chunk, s);
+    while s.from < chunk.len() {
+        s = pass(writer, m, w, line, out, chunk, s)?;
     }
-    s
+    Ok(s)
 }
 
 // The answer to a last line without its end, and its length.
@@ -215,45 +220,89 @@ fn fresh() -> State
     }
 }
 
-// Reads the input piece by piece; true where nothing more is to be read and the last of the output is written.
-// That `chunk` has what is read, and `out` what is written, is the C library's.
-fn run(m: &mut [u32], w: &mut [u32], line: &mut [u8], out: &mut [u8], chunk: &mut [u8]) -> bool
-    requires w_value { machines false m.old w.old ≡ zeros }
-    requires buffers { Buffers line.old out.old }
-    ensures { result ≡ true → Rehearsed m.new w.new line.new out.new }
+// The next piece of the input, at the start of the chunk, and its length: 0 where nothing is left. A read that a signal cuts short is made again.
+fn next_piece<R: Read>(reader: &mut R, chunk: &mut [u8]) -> Result<usize, Failure>
+    ensures within { ReadsAtMost result chunk.new }
+    ensures bytes { IfOk result (λ n. Consumes (R.remaining reader.old) (R.remaining reader.new) (take n chunk.new)) }
+    ensures end { IfOk result (λ n. n ≡ 0 → 0 < length chunk.old → IsAtEnd (R.remaining reader.new)) }
 {
-    let mut turns = u64::MAX;
-    let mut s = fresh();
-    while turns > 0 && s.on {
-        let got = libc::read(0, chunk);
-        if got <= 0 {
-            let at = ending(out, s);
-            return flush(out, at);
+    for _ in 0..u64::MAX {
+        match reader.read(chunk) {
+            Ok(n) => return Ok(n),
+            Err(e) => {
+                if e.kind() != ErrorKind::Interrupted {
+                    return Err(Failure::Reading(e));
+                }
+            }
         }
-        let n = io::count(got, chunk);
-        s = drain(m, w, line, out, &chunk[..n], s);
-        turns -= 1;
     }
-    false
+    Err(Failure::Reading(io::Error::from(ErrorKind::Interrupted)))
 }
 
-// The whole schedule, from zero words; where the output fails, standard error has a sentence and the system's reason.
-fn rehearse() {
+// Reads the input piece by piece, until nothing more is to be read and the last of the output is written.
+fn run<R: Read, W: Write>(
+    reader: &mut R,
+    writer: &mut W,
+    m: &mut [u32],
+    w: &mut [u32],
+    line: &mut [u8],
+    out: &mut [u8],
+    chunk: &mut [u8],
+) -> Result<(), Failure>
+    requires w_value { machines false m.old w.old ≡ zeros }
+    requires buffers { Buffers line.old out.old }
+    ensures whole { OnOk result (Rehearsed m.new w.new line.new out.new) }
+    ensures bytes { OnOk result (0 < length chunk.old → Rehearses (R.remaining reader.old) (W.contents writer.old) (W.contents writer.new)) }
+{
+    let mut s = fresh();
+    for _ in 0..u64::MAX {
+        let n = next_piece(reader, chunk)?;
+        if n == 0 {
+            let at = ending(out, s);
+            return flush(writer, out, at);
+        }
+        s = drain(writer, m, w, line, out, &chunk[..n], s)?;
+    }
+    Err(Failure::Reading(io::Error::other("it has too many pieces")))
+}
+
+// The whole schedule, from zero words: what the writer gets is the rehearsal of what the reader has.
+fn rehearse<R: Read, W: Write>(reader: &mut R, writer: &mut W) -> Result<(), Failure>
+    ensures { OnOk result (Rehearses (R.remaining reader.old) (W.contents writer.old) (W.contents writer.new)) }
+{
     let mut m = [0u32; 4992];
     let mut w = [0u32; 5036];
     let mut line = [0u8; 80];
     let mut out = [0u8; 65536];
     let mut chunk = [0u8; 65536];
-    if !run(&mut m, &mut w, &mut line, &mut out, &mut chunk) {
-        os::fail(b"rehearse: the output could not be written");
+    run(
+        reader, writer, &mut m, &mut w, &mut line, &mut out, &mut chunk,
+    )
+}
+
+// Whether there is an argument, whatever it says.
+fn has_argument(rt: &impl Env) -> bool {
+    let mut first = [0u8; 1];
+    match rt.arg(1, &mut first) {
+        Err(FillError::NotPresent) => false,
+        _ => true,
     }
 }
 
-// A program can set no exit status, so what went wrong is said on standard error alone.
-fn main() {
-    if os::arg_count() > 1 {
-        io::write_all(STDERR_FILENO, b"usage: rehearse < SCHEDULE > ANSWERS\n");
-        return;
+// What went wrong is said on standard error; a reader of the answers that went away is no failure.
+fn main(rt: HostRuntime) -> ExitCode {
+    if has_argument(&rt) {
+        let _ = eprintln!(rt; "usage: rehearse < SCHEDULE > ANSWERS");
+        return ExitCode::from(2);
     }
-    rehearse();
+    match rehearse(&mut rt.stdin(), &mut rt.stdout()) {
+        Ok(()) => ExitCode::SUCCESS,
+        Err(failure) => {
+            if failure.is_quiet() {
+                return ExitCode::SUCCESS;
+            }
+            let _ = eprintln!(rt; "rehearse: {failure}");
+            ExitCode::FAILURE
+        }
+    }
 }
