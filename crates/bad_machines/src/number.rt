@@ -14,8 +14,8 @@ pub fn field(s: &[u8], from: usize) -> Decimal
     ensures { result.next ≤ length s.now }
 {
     let mut value: u32 = 0;
-    let mut i = after_space(s, from);
-    while i < s.len() {
+    let start = after_space(s, from);
+    for i in start..s.len() {
         let b = s[i];
         if b < b'0' {
             return Decimal { value, next: i };
@@ -24,9 +24,11 @@ pub fn field(s: &[u8], from: usize) -> Decimal
             return Decimal { value, next: i };
         }
         value = shifted(value, b);
-        i += 1;
     }
-    Decimal { value, next: i }
+    Decimal {
+        value,
+        next: s.len(),
+    }
 }
 
 fn after_space(s: &[u8], from: usize) -> usize

@@ -8,11 +8,7 @@ use tables::{BASE, Client, Directory, Entry, Message, places, rows};
 fn clear(m: &mut [u32])
     requires { 4992 ≤ length m.old }
 {
-    let mut i = 0;
-    while i < 4992 {
-        m[i] = 0;
-        i += 1;
-    }
+    m[..4992].fill(0);
 }
 
 fn tag(number: u32, client: u32) -> Tag {
@@ -36,10 +32,8 @@ fn put_entry(m: &mut [u32], i: usize, e: usize, state: u32, t: Tag)
 fn first_pages(m: &mut [u32], n: usize)
     requires { (4992 ≤ length m.old) × (n ≤ 7) }
 {
-    let mut i = 0;
-    while i < n {
+    for i in 0..n {
         put_entry(m, i, 0, 2, tag(0, 0));
-        i += 1;
     }
 }
 
@@ -47,15 +41,13 @@ fn first_pages(m: &mut [u32], n: usize)
 fn same_directories(m: &mut [u32], n: usize, t: Tag, set: u32)
     requires { (4992 ≤ length m.old) × (n ≤ 5) }
 {
-    let mut i = 0;
-    while i < n {
+    for i in 0..n {
         let d = Directory {
             down: 0,
             tag: t,
             set,
         };
         places::set_directory(BASE, m, i, d);
-        i += 1;
     }
 }
 

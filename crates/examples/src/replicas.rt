@@ -89,9 +89,7 @@ fn write(n: u32) -> Message {
 fn fill(l: &mut [u32], n: u32)
     requires { 240 ≤ length l.old }
 {
-    let mut i: u32 = 0;
-    while i < n {
-        i += 1;
+    for i in 1..=n {
         replica::take_in(l, write(i));
     }
 }

@@ -4,10 +4,8 @@ use std::io;
 
 fn writes(m: &mut [u32], times: u32) -> u32 {
     let mut last = 0;
-    let mut n = 0;
-    while n < times {
+    for _ in 0..times {
         last = wear::write(m);
-        n += 1;
     }
     last
 }

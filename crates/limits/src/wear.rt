@@ -29,13 +29,11 @@ pub fn deliver(m: &mut [u32]) -> u32 {
 // Answers the last code that was no DONE.
 fn deliver_all(m: &mut [u32], times: u32) -> u32 {
     let mut last = 0;
-    let mut n = 0;
-    while n < times {
+    for _ in 0..times {
         let code = deliver(m);
         if code != 0 {
             last = code;
         }
-        n += 1;
     }
     last
 }

@@ -135,13 +135,11 @@ fn buffers(rt: &impl Print, m: &mut [u32]) -> io::Result<()>
 
 // Slots 1 to 64 are delivered in turn until an operation ends; its code.
 fn finish(m: &mut [u32], page: &mut [u32]) -> u32 {
-    let mut n: u32 = 0;
-    while n < 640 {
+    for n in 0..640u32 {
         let code = machine::wide::deliver(m, n % 64 + 1, page).code;
         if (code == 1) | (code == 2) {
             return code;
         }
-        n += 1;
     }
     0
 }
