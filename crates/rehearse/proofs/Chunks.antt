@@ -1,14 +1,14 @@
 -- Whole chunks, and the input's end.
-use mathlib.Core.Path.{◌≡◌, refl, sym, ap, ◌∙◌}
+use mathlib.Core.Path.{◌≡◌, sym, ap, ◌∙◌}
 use mathlib.Core.Bool.{Bool, true, false}
 use mathlib.Core.List.{List, [], ◌++◌, append-nil}
-use Prim.Native.Nat.{ℕ, ◌-◌, ◌≤◌, ◌<◌}
+use Prim.Native.Nat.{ℕ, ◌≤◌}
 use native.Mathlib.Omega.{arith}
 use lib.ListN.{length, take, drop}
 use lib.Seq.{drop-length}
 use Rattle.std.specs.Prelude.{Option}
 use Rattle.std.specs.Io.KnownBytes.{Appends}
-use Rattle.std.proofs.KnownBytes.{Appends-nil, Appends-trans}
+use Rattle.std.proofs.KnownBytes.{Appends-trans}
 use Rattle.schedule.specs.Text.{answer_text}
 use Rattle.schedule.specs.Input.{Held, commands_from, unfinished, malformed_if}
 use Rattle.schedule.specs.Inner.{Printed}
@@ -16,7 +16,7 @@ use Rattle.rehearse.specs.declared.State.{State}
 use Rattle.rehearse.specs.Rehearsal.{Machines, printed, following, output_of}
 use Rattle.rehearse.specs.Pieces.{ahead}
 use Rattle.rehearse.specs.Turns.{Goes, Consumed, Drained, Ended}
-use Rattle.rehearse.proofs.Turns.{goes_anew, goes_none}
+use Rattle.rehearse.proofs.Turns.{goes_anew}
 
 -- what was written out of a chunk so far
 pub record Written (chunk : List ℕ) (s : State) (m : Machines) (l : List ℕ) (before : Option (List ℕ)) (r : State) (m' : Machines) (l' : List ℕ) (after : Option (List ℕ)) : Type 0 where
@@ -25,13 +25,7 @@ pub record Written (chunk : List ℕ) (s : State) (m : Machines) (l : List ℕ) 
   pub written : Appends before after text
 
 module _ (chunk : List ℕ) (s : State) (m : Machines) (l : List ℕ) (before : Option (List ℕ)) where
-  pub no_pass : s.from ≤ length chunk → Written chunk s m l before s m l before
-  no_pass h = record { text = []; goes = goes_none chunk s m l [] h refl; written = Appends-nil before }
-
   module _ (r : State) (m' : Machines) (l' : List ℕ) (after : Option (List ℕ)) (g : Written chunk s m l before r m' l' after) where
-    pub within : r.from ≤ length chunk
-    within = g.goes.high
-
     pub one_pass : (t : State) (m'' : Machines) (l'' out'' : List ℕ) (later : Option (List ℕ)) → Consumed chunk r m' l' t m'' l'' out'' → Appends after later (take t.at out'')
         → Written chunk s m l before t m'' l'' later
     one_pass t m'' l'' out'' later h a =
@@ -40,11 +34,6 @@ module _ (chunk : List ℕ) (s : State) (m : Machines) (l : List ℕ) (before : 
           goes = goes_anew chunk s r t m l [] m' l' g.text m'' l'' (take t.at out'') g.goes h.goes;
           written = Appends-trans before after later g.text (take t.at out'') g.written a;
         }
-
--- a pass takes some bytes
-pub fewer : (chunk : List ℕ) (s : State) (m : Machines) (l : List ℕ) (r : State) (m' : Machines) (l' out' : List ℕ) → s.from < length chunk
-    → Consumed chunk s m l r m' l' out' → length chunk - r.from < length chunk - s.from
-fewer chunk s m l r m' l' out' h g = omega (arith, h, g.some)
 
 -- all of a chunk
 pub drained : (chunk : List ℕ) (s : State) (m : Machines) (l : List ℕ) (before : Option (List ℕ)) (r : State) (m' : Machines) (l' : List ℕ) (after : Option (List ℕ))

@@ -1,6 +1,6 @@
 -- Whatever the pieces in which the input comes, what the program writes is the rehearsal of it.
 use mathlib.Core.Path.{◌≡◌, refl, sym, ap, subst, ◌∙◌}
-use mathlib.Core.Bool.{Bool, true, false}
+use mathlib.Core.Bool.{Bool, false}
 use mathlib.Core.List.{List, [], ◌++◌, append-nil, append_assoc}
 use lib.ListN.{take}
 use Rattle.std.specs.Prelude.{Option}

@@ -1,4 +1,4 @@
--- What the program writes of what it reads: a reader must believe Rehearsal, Pieces and the end of Turns, `Rehearsed`. The rest of Turns may change with the code.
+-- What the program writes of what it reads: a reader must believe Rehearsal, Pieces and the end of Turns, `Rehearsed` and `Rehearses`. The rest of Turns may change with the code.
 pub mod Rehearsal
 pub mod Pieces
 pub mod Turns

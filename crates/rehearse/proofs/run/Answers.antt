@@ -21,6 +21,6 @@ returns-then-n-eq0-clause-bytes g c =
     let (line, out, chunk, so_far) = c.loop.invariant in
     on_ok_weaker c.flush.result
     (λ written some.
-        wrote_all _ _ _ _ _ _ _ _ so_far _ _ c.ending-at.ensures _ _ _ _ c.if-n-eq0.true c.in_ok-n.ensures.bytes
-        (c.in_ok-n.ensures.end c.if-n-eq0.true (omega arith)) written)
+    wrote_all _ _ _ _ _ _ _ _ so_far _ _ c.ending-at.ensures _ _ _ _ c.if-n-eq0.true c.in_ok-n.ensures.bytes
+    (c.in_ok-n.ensures.end c.if-n-eq0.true (omega arith)) written)
     c.flush.ensures
