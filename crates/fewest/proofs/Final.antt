@@ -16,7 +16,6 @@ use Rattle.tables.specs.Machines.{machine_of}
 use Rattle.tables.proofs.Whole.{Paged}
 use Rattle.inspect.specs.Good.{is_party}
 use Rattle.rules.specs.declared.Answer.{Answer}
-use Rattle.machine.specs.Effects.{client}
 use Rattle.machine.specs.Calls.{Call, set_up, start_read, start_write, deliver}
 use Rattle.machine.specs.Refusals.{is_busy}
 use Rattle.machine.specs.Steps.{Result, step}

@@ -12,7 +12,7 @@ use Rattle.sets.specs.declared.Tag.{Tag}
 use Rattle.sets.specs.declared.Order.{Order}
 use Rattle.sets.specs.declared.Order.TheVariants.{Lower, Same, Greater}
 use Rattle.sets.specs.Sets.{join, with}
-use Rattle.sets.specs.Tags.{tag, first, against}
+use Rattle.sets.specs.Tags.{first, against}
 use Rattle.sets.proofs.Laws.{join_lt, with_lt}
 use Rattle.sets.proofs.Tests.{if_ind}
 use Rattle.tables.specs.declared.Conf.{Conf}

@@ -18,8 +18,10 @@ pub loop-rest-preserved : goal.loop-rest-preserved
 loop-rest-preserved c =
     let l = c.loop-rest in
     let z = c.loop-rest-test.true in
-    elim c.if-rest-eq1.branch [ then-rest-eq1 w ↦ rw w.l-is (sends l.invariant z w.enter.new.l w.if-rest-eq1.true w.enter.ensures)
-    | else-rest-eq1 w ↦ rw w.l-is (passes l.invariant z w.if-rest-eq1.false) ]
+    elim c.if-rest-eq1.branch [
+      | then-rest-eq1 w ↦ rw w.l-is (sends l.invariant z w.enter.new.l w.if-rest-eq1.true w.enter.ensures)
+      | else-rest-eq1 w ↦ rw w.l-is (passes l.invariant z w.if-rest-eq1.false)
+    ]
 
 pub returns : goal.returns
 returns c = search sends_end

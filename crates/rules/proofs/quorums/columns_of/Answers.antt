@@ -52,8 +52,10 @@ pub added-known-requires : goal.added-known-requires
 added-known-requires c = column_fits _ _ c.requires.some c.requires.columns
 
 pub loop-d-preserved : goal.loop-d-preserved
-loop-d-preserved c = elim c.if-is_in-inside.branch [ then-is_in-inside w ↦ search taken
-    | else-is_in-inside w ↦ search left ]
+loop-d-preserved c = elim c.if-is_in-inside.branch [
+  | then-is_in-inside w ↦ search taken
+  | else-is_in-inside w ↦ search left
+]
 
 pub returns : goal.returns
 returns c = search over
