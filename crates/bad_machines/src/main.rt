@@ -2,10 +2,10 @@
 // word changed is good or bad. A line `u text` begins from a machine after set-up, a line `r text` from one with a row of every kind.
 #![tactic(auto)]
 
-ghost use Rattle.std.specs.Prelude.{◌≤◌, length};
+ghost use Rattle.std.specs.Prelude.{◌≤◌, length, IfOk};
 
 use std::io;
-use std::io::{Input, Read};
+use std::io::Read;
 use tables::BASE;
 
 mod number; // number.rt: decimal fields
@@ -92,9 +92,24 @@ fn run(rt: &impl Print, m: &mut [u32], input: &[u8]) -> io::Result<()>
     Ok(())
 }
 
+// Reads until the buffer is full or the input ends; the number of bytes read.
+fn read_full<R: Read>(reader: &mut R, buffer: &mut [u8]) -> io::Result<usize>
+    ensures { IfOk result (λ n. n ≤ length buffer.new) }
+{
+    let mut done = 0;
+    while done < buffer.len() {
+        let n = reader.read(&mut buffer[done..])?;
+        if n == 0 {
+            return Ok(done);
+        }
+        done += n;
+    }
+    Ok(done)
+}
+
 fn main(rt: HostRuntime) -> io::Result<()> {
     let mut m = [0u32; 4992];
-    let mut input = Vec::new(rt.alloc());
-    rt.reader().read_to_end(&mut input)?;
-    run(&rt, &mut m, &input)
+    let mut input = [0u8; 65536];
+    let n = read_full(&mut rt.stdin(), &mut input)?;
+    run(&rt, &mut m, &input[..n])
 }

@@ -46,15 +46,15 @@ fn hears(top: u32, n: u32) -> Outcome
 
 fn outcome(rt: &impl Print, o: Outcome) -> io::Result<()> {
     match o {
-        Outcome::Waiting => show::text(rt, "waiting"),
+        Outcome::Waiting => show::text(rt, b"waiting"),
         Outcome::Next(t) => {
-            show::text(rt, "number ")?;
+            show::text(rt, b"number ")?;
             show::number(rt, t.number)
         }
-        Outcome::ReadEnded(_, _) => show::text(rt, "READ ENDED"),
-        Outcome::WriteEnded(_) => show::text(rt, "WRITE ENDED"),
-        Outcome::Spent => show::text(rt, "SPENT"),
-        Outcome::Stale => show::text(rt, "STALE"),
+        Outcome::ReadEnded(_, _) => show::text(rt, b"READ ENDED"),
+        Outcome::WriteEnded(_) => show::text(rt, b"WRITE ENDED"),
+        Outcome::Spent => show::text(rt, b"SPENT"),
+        Outcome::Stale => show::text(rt, b"STALE"),
     }
 }
 
@@ -63,7 +63,7 @@ fn greatest(rt: &impl Print, top: u32, n: u32) -> io::Result<()>
 {
     print!(rt; "12 top {top}, greatest number {n}: ")?;
     outcome(rt, hears(top, n))?;
-    show::text(rt, "\n")
+    show::text(rt, b"\n")
 }
 
 pub fn run(rt: &impl Print) -> io::Result<()> {

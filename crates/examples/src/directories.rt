@@ -31,14 +31,14 @@ fn same_row(a: Directory, b: Directory) -> bool {
 fn outcome(rt: &impl Print, after: Directory, to: u32) -> io::Result<()> {
     if !same_row(d(), after) {
         show::tag(rt, after.tag)?;
-        show::text(rt, ", ")?;
+        show::text(rt, b", ")?;
         return show::set(rt, after.set);
     }
-    show::text(rt, "no change")?;
+    show::text(rt, b"no change")?;
     if to == 0 {
         Ok(())
     } else {
-        show::text(rt, ", reply")
+        show::text(rt, b", reply")
     }
 }
 
@@ -48,7 +48,7 @@ fn takes(rt: &impl Print, x: Message) -> io::Result<()>
     let after = rules::directory::after(1, d(), x);
     let post = rules::directory::post(d(), x);
     outcome(rt, after, post.to)?;
-    show::text(rt, "\n")
+    show::text(rt, b"\n")
 }
 
 fn message(kind: u32, sender: u32, t: Tag, set: u32, number: u32) -> Message
@@ -71,9 +71,9 @@ fn message(kind: u32, sender: u32, t: Tag, set: u32, number: u32) -> Message
 fn wwrite(rt: &impl Print, n: u32, t: Tag, s: u32) -> io::Result<()> {
     print!(rt; "{n} D takes wwrite ")?;
     show::tag(rt, t)?;
-    show::text(rt, ", ")?;
+    show::text(rt, b", ")?;
     show::set(rt, s)?;
-    show::text(rt, ": ")?;
+    show::text(rt, b": ")?;
     takes(rt, message(4, 1, t, s, 1))
 }
 
@@ -81,7 +81,7 @@ fn wwrite(rt: &impl Print, n: u32, t: Tag, s: u32) -> io::Result<()> {
 fn notice(rt: &impl Print, n: u32, t: Tag) -> io::Result<()> {
     print!(rt; "{n} D takes notice ")?;
     show::tag(rt, t)?;
-    show::text(rt, " from 3: ")?;
+    show::text(rt, b" from 3: ")?;
     takes(rt, message(14, 3, t, 0, 0))
 }
 

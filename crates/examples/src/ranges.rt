@@ -6,9 +6,9 @@ use tables::Conf;
 
 fn in_range(rt: &impl Print, k: Conf) -> io::Result<()> {
     if fields::numbers(5, k) {
-        show::text(rt, ": in range\n")
+        show::text(rt, b": in range\n")
     } else {
-        show::text(rt, ": out of range\n")
+        show::text(rt, b": out of range\n")
     }
 }
 

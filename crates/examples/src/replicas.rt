@@ -29,9 +29,9 @@ fn read(rt: &impl Print, n: u32, l: &[u32], t: Tag) -> io::Result<()>
     requires { 240 ≤ length l.now }
 {
     begin(rt, n, l)?;
-    show::text(rt, ": read ")?;
+    show::text(rt, b": read ")?;
     show::tag(rt, t)?;
-    show::text(rt, ": ")?;
+    show::text(rt, b": ")?;
     let found = replica::read_in(l, t);
     let e = found.entry;
     show::tag(rt, e.tag)?;
@@ -43,9 +43,9 @@ fn tidied(rt: &impl Print, n: u32, l: &mut [u32]) -> io::Result<()>
 {
     begin(rt, n, l)?;
     tidy::tidy_in(l);
-    show::text(rt, ": tidy: ")?;
+    show::text(rt, b": tidy: ")?;
     show::entries(rt, l)?;
-    show::text(rt, "\n")
+    show::text(rt, b"\n")
 }
 
 fn reads(rt: &impl Print) -> io::Result<()> {
@@ -103,9 +103,9 @@ fn comes(rt: &impl Print, n: u32) -> io::Result<()>
     fill(&mut l, n - 2);
     print!(rt; "tag {n}")?;
     if replica::full(&l, write(n)) {
-        show::text(rt, " at a replica: FULL\n")
+        show::text(rt, b" at a replica: FULL\n")
     } else {
-        show::text(rt, " at a replica: not FULL\n")
+        show::text(rt, b" at a replica: not FULL\n")
     }
 }
 

@@ -5,8 +5,8 @@ use sets::Tag;
 use std::io;
 use tables::{Entry, rows};
 
-pub fn text(rt: &impl Print, s: &str) -> io::Result<()> {
-    rt.print(s)
+pub fn text(rt: &impl Print, s: &[u8]) -> io::Result<()> {
+    rt.write_all(s)
 }
 
 pub fn number(rt: &impl Print, n: u32) -> io::Result<()> {
@@ -25,25 +25,25 @@ fn party(rt: &impl Print, s: u32, p: u32, more: bool) -> io::Result<bool>
         return Ok(more);
     }
     if more {
-        text(rt, ",")?;
+        text(rt, b",")?;
     }
     number(rt, p)?;
     Ok(true)
 }
 
 pub fn set(rt: &impl Print, s: u32) -> io::Result<()> {
-    text(rt, "{")?;
+    text(rt, b"{")?;
     let mut more = false;
     for p in 1..=32 {
         more = party(rt, s, p, more)?;
     }
-    text(rt, "}")
+    text(rt, b"}")
 }
 
 fn state(rt: &impl Print, s: u32) -> io::Result<()> {
     match s {
-        1 => text(rt, "held "),
-        _ => text(rt, "secured "),
+        1 => text(rt, b"held "),
+        _ => text(rt, b"secured "),
     }
 }
 
@@ -53,7 +53,7 @@ fn entry(rt: &impl Print, e: Entry, more: bool) -> io::Result<bool> {
         return Ok(more);
     }
     if more {
-        text(rt, ", ")?;
+        text(rt, b", ")?;
     }
     state(rt, e.state)?;
     tag(rt, e.tag)?;

@@ -6,12 +6,12 @@ use std::io;
 fn compared(rt: &impl Print, n: u32, a: Tag, b: Tag) -> io::Result<()> {
     print!(rt; "{n} ")?;
     show::tag(rt, a)?;
-    show::text(rt, " against ")?;
+    show::text(rt, b" against ")?;
     show::tag(rt, b)?;
     match sets::compare(a, b) {
-        Order::Lower => show::text(rt, ": lower\n"),
-        Order::Same => show::text(rt, ": same\n"),
-        Order::Greater => show::text(rt, ": greater\n"),
+        Order::Lower => show::text(rt, b": lower\n"),
+        Order::Same => show::text(rt, b": same\n"),
+        Order::Greater => show::text(rt, b": greater\n"),
     }
 }
 

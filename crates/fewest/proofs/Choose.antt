@@ -1,4 +1,5 @@
 -- Parties chosen from a table: so many that pass a test, just so many of a set, and one of a set that fails a test.
+use Rattle.std.specs.Prelude.{if◌then◌else◌}
 use mathlib.Core.Path.{◌≡◌, refl, sym, subst}
 use mathlib.Core.Bool.{Bool, true, false}
 use mathlib.Core.List.Memᴰ
@@ -10,7 +11,7 @@ use lib.Dec.{T, leb, leb→le, le→leb}
 use lib.Pow.{pow_pos}
 use lib.ListN.{length, take}
 use lib.Seq.{length-take-le}
-use Rattle.sets.specs.Plain.{if◌then◌else◌, keep, numbers}
+use Rattle.sets.specs.Plain.{keep, numbers}
 use Rattle.sets.specs.Sets.{has, size, with}
 use Rattle.sets.specs.Inner.{◌∈◌}
 use Rattle.sets.proofs.Laws.{none_in, with_in, in_with_old, in_with_new, with_lt, size_none, size_new, within}

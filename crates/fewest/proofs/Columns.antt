@@ -1,4 +1,5 @@
 -- Directories in columns: a whole column is as many as the column height, and of every column one can be had by just as many as there are columns.
+use Rattle.std.specs.Prelude.{if◌then◌else◌}
 use mathlib.Core.Path.{◌≡◌, refl, sym, ap}
 use mathlib.Core.Bool.{Bool}
 use mathlib.Core.List.{List, [], ◌∷◌, Memᴰ}
@@ -10,7 +11,7 @@ use native.Mathlib.Omega.{arith}
 use lib.Arith.{digits_mod}
 use lib.Dec.{T, eqb, T_not, eqb→eq, eqb_refl}
 use lib.ListN.{length}
-use Rattle.sets.specs.Plain.{if◌then◌else◌, keep, numbers}
+use Rattle.sets.specs.Plain.{keep, numbers}
 use Rattle.sets.specs.Sets.{has, size, with, all}
 use Rattle.sets.specs.Inner.{◌∈◌}
 use Rattle.sets.proofs.Laws.{none_in, with_in, in_all, size_none, size_new, size_old, size_all}

@@ -1,11 +1,11 @@
 -- Calls on a buffer that holds a good machine, as steps of it.
+use Rattle.std.specs.Prelude.{if◌then◌else◌}
 use mathlib.Core.Path.{◌≡◌, refl, ap, subst, ◌∙◌}
 use mathlib.Core.Bool.{Bool, true, false, not}
 use mathlib.Core.List.{List}
 use Prim.Native.Nat.{ℕ, ◌≤◌}
 use native.Mathlib.Omega.{arith}
 use lib.Dec.{T}
-use Rattle.sets.specs.Plain.{if◌then◌else◌}
 use Rattle.tables.specs.declared.Layout.{Layout}
 use Rattle.tables.specs.Tables.{Machine}
 use Rattle.machine.specs.Effects.{Effect}

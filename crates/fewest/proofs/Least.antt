@@ -1,4 +1,5 @@
 -- NO FEWER: where a client is idle, no sequence of calls without set-up ends an operation of it below the price, whoever is up and whatever room there is.
+use Rattle.std.specs.Prelude.{if◌then◌else◌}
 use mathlib.Core.Path.{◌≡◌, refl, subst}
 use mathlib.Core.Bool.{Bool, true, false, not}
 use mathlib.Core.List.{List, [], ◌∷◌}
@@ -8,7 +9,6 @@ use native.Mathlib.Nat.{zero-add}
 use native.Mathlib.Omega.{arith}
 use lib.Dec.{T, eqb, eqb→eq}
 use lib.Pow.{pow_pos}
-use Rattle.sets.specs.Plain.{if◌then◌else◌}
 use Rattle.sets.proofs.Laws.{size_none}
 use Rattle.sets.proofs.Tests.{if_ind}
 use Rattle.tables.specs.declared.Layout.{Layout}

@@ -1,4 +1,5 @@
 -- The phases of a read and of a write, each a round over parties that are up: SO MANY DELIVERIES DO.
+use Rattle.std.specs.Prelude.{if◌then◌else◌}
 use mathlib.Core.Path.{◌≡◌, refl, ap, subst, ◌∙◌}
 use mathlib.Core.Bool.{not, ◌&&◌}
 use mathlib.Core.List.{[], ◌∷◌}
@@ -8,7 +9,6 @@ use borrow.Author.Tests.{lt-leb}
 use lib.Count.{ones-le}
 use lib.Dec.{T, eqb, le→leb, not_T}
 use lib.Pow.{pow_mono}
-use Rattle.sets.specs.Plain.{if◌then◌else◌}
 use Rattle.sets.specs.Tags.{tag}
 use Rattle.sets.specs.Sets.{size, all}
 use Rattle.sets.specs.Inner.{◌∈◌}

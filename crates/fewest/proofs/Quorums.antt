@@ -1,4 +1,5 @@
 -- What the quorum tests cost: every enough set has at least so many members, and just so many of it are enough. What speaks of a quorum stands here and in Voters, and in no other proof.
+use Rattle.std.specs.Prelude.{if◌then◌else◌}
 use mathlib.Core.Bool.{Bool, true, false}
 use mathlib.Core.List.{[], ◌∷◌}
 use Prim.Native.Nat.{ℕ, ◌+◌, ◌^◌, ◌≤◌, ◌<◌}
@@ -6,7 +7,7 @@ use native.Mathlib.Nat.{le-div_iff_mul-le}
 use native.Mathlib.Omega.{arith}
 use lib.Dec.{T, leb, eqb, leb→le}
 use lib.ListN.{length}
-use Rattle.sets.specs.Plain.{if◌then◌else◌, one_of}
+use Rattle.sets.specs.Plain.{one_of}
 use Rattle.sets.specs.Sets.{size}
 use Rattle.tables.specs.declared.Conf.{Conf}
 use Rattle.tables.specs.Tables.{Machine}

@@ -1,4 +1,5 @@
 -- A request of a client's phase is delivered to a party that is up: its reply waits, and nothing else that the operation needs is lost.
+use Rattle.std.specs.Prelude.{if◌then◌else◌}
 use mathlib.Core.Path.{◌≡◌, refl, sym, ap, ◌∙◌}
 use mathlib.Core.Bool.{false, not, and-false}
 use mathlib.Core.List.{List, [], ◌∷◌}
@@ -7,7 +8,6 @@ use native.Mathlib.Omega.{arith}
 use lib.Dec.{T, eqb}
 use lib.ListN.{length}
 use Rattle.sets.specs.declared.Tag.{Tag}
-use Rattle.sets.specs.Plain.{if◌then◌else◌}
 use Rattle.sets.specs.Tags.{first}
 use Rattle.sets.specs.Sets.{has, only}
 use Rattle.sets.proofs.Laws.{only_lt, in_only, size_only}

@@ -1,4 +1,5 @@
 -- What the open operation of a client has cost so far: each call adds at most what it is, and an end is never cheaper than its price.
+use Rattle.std.specs.Prelude.{if◌then◌else◌}
 use mathlib.Core.Path.{◌≡◌, refl, sym, ap, subst, ◌∙◌}
 use mathlib.Core.Logic.{⊎_elim}
 use mathlib.Core.List.{List, [], ◌∷◌}
@@ -7,7 +8,6 @@ use native.Mathlib.Decide.{ℕ_discrete}
 use native.Mathlib.Omega.{arith}
 use lib.Dec.{eqb, T_not}
 use lib.Pow.{pow_pos}
-use Rattle.sets.specs.Plain.{if◌then◌else◌}
 use Rattle.sets.specs.declared.Tag.{Tag}
 use Rattle.sets.specs.Sets.{size, with, only}
 use Rattle.sets.specs.Inner.{◌∈◌}

@@ -1,4 +1,5 @@
 -- A reply that a client waits for is delivered: it waits on, its phase changes and the next requests wait, or the operation ends.
+use Rattle.std.specs.Prelude.{if◌then◌else◌}
 use mathlib.Core.Path.{◌≡◌, refl, sym, ap, subst, ◌∙◌}
 use mathlib.Core.Bool.{Bool, true, false, and-false}
 use mathlib.Core.List.{[], ◌∷◌}
@@ -10,7 +11,7 @@ use lib.ListN.{length}
 use Rattle.sets.specs.declared.Tag.{Tag}
 use Rattle.sets.specs.declared.Order.{Order}
 use Rattle.sets.specs.declared.Order.TheVariants.{Lower, Same, Greater}
-use Rattle.sets.specs.Plain.{if◌then◌else◌, one_of}
+use Rattle.sets.specs.Plain.{one_of}
 use Rattle.sets.specs.Tags.{against}
 use Rattle.sets.specs.Sets.{has, size, with, all}
 use Rattle.sets.specs.Inner.{◌∈◌}

@@ -1,6 +1,6 @@
 -- How few deliveries will do: what is asked, what an operation then costs, what is counted, and what it is to take so many.
-use Rattle.sets.specs.Plain.{◌≡◌, ◌⊎◌, Bool, true, not, ◌&&◌, ℕ, ◌+◌, ◌*◌, ◌/◌, T, leb, eqb, List, [], ◌∷◌, ◌++◌, map, length, if◌then◌else◌, keep, numbers}
-use Rattle.std.specs.Prelude.{◌≤◌}
+use Rattle.sets.specs.Plain.{keep, numbers}
+use Rattle.std.specs.Prelude.{◌≤◌, ◌≡◌, ◌⊎◌, Bool, true, not, ◌&&◌, ℕ, ◌+◌, ◌*◌, ◌/◌, T, leb, eqb, List, [], ◌∷◌, ◌++◌, map, length, if◌then◌else◌}
 use Rattle.sets.specs.Sets.{with}
 use Rattle.tables.specs.declared.Layout.{Layout}
 use Rattle.tables.specs.declared.Conf.{Conf}

@@ -1,5 +1,6 @@
 -- How an operation hangs: the words of the examples that show each premise to be needed.
-use Rattle.sets.specs.Plain.{◌≡◌, Bool, true, false, not, ◌&&◌, ◌||◌, ℕ, eqb, List, [], ◌∷◌, map, numbers, one_of}
+use Rattle.std.specs.Prelude.{◌≡◌, Bool, true, false, not, ◌&&◌, ◌||◌, ℕ, eqb, List, [], ◌∷◌, map}
+use Rattle.sets.specs.Plain.{numbers, one_of}
 use Rattle.tables.specs.Rows.{some?}
 use Rattle.tables.specs.Tables.{Machine, no_page}
 use Rattle.machine.specs.Calls.{Call, deliver}

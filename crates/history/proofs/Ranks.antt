@@ -1,4 +1,5 @@
 -- A tag as one number, its rank; and what a client's row says that it is doing.
+use Rattle.std.specs.Prelude.{if◌then◌else◌}
 use mathlib.Core.Path.{◌≡◌, refl, ap, ap₂, ◌∙◌}
 use mathlib.Core.Bool.{Bool, true, false, not}
 use mathlib.Core.List.{[], ◌∷◌}
@@ -6,7 +7,7 @@ use Prim.Native.Nat.{ℕ, ◌+◌, ◌*◌, ◌/◌, ◌%◌, ◌≤◌, ◌<◌
 use native.Mathlib.Omega.{arith}
 use native.Mathlib.Decide.{dec_lt}
 use lib.Dec.{T, eqb}
-use Rattle.sets.specs.Plain.{if◌then◌else◌, one_of}
+use Rattle.sets.specs.Plain.{one_of}
 use Rattle.sets.specs.declared.Tag.{Tag}
 use Rattle.sets.specs.Tags.{tag}
 use Rattle.sets.proofs.TagOrder.{◌≼◌, ◌≺◌}

@@ -1,10 +1,10 @@
 -- The ways through a call that is no accepted set-up: it is refused and shows nothing, or it acts.
+use Rattle.std.specs.Prelude.{if◌then◌else◌}
 use mathlib.Core.Option.{Option, none, some}
 use mathlib.Core.Path.{◌≡◌, refl, sym, subst}
 use Prim.Native.Nat.{ℕ, ◌≤◌}
 use native.Mathlib.Omega.{arith}
 use lib.Dec.{eqb, eqb→eq}
-use Rattle.sets.specs.Plain.{if◌then◌else◌}
 use Rattle.sets.proofs.Tests.{if_ind}
 use Rattle.tables.specs.Tables.{Page, Machine}
 use Rattle.rules.specs.declared.Answer.{Answer}

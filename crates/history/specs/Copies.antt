@@ -1,5 +1,5 @@
 -- "whether the copy was the one asked for": what the fifth number of an answer says.
-use Rattle.sets.specs.Plain.{◌≡◌, T}
+use Rattle.std.specs.Prelude.{◌≡◌, T}
 use Rattle.sets.specs.declared.Tag.{Tag}
 use Rattle.sets.specs.Tags.{lower}
 use Rattle.rules.specs.declared.Answer.{Answer}

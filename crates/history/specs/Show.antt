@@ -1,5 +1,6 @@
 -- What a call shows its caller, by its answer; and the calls on a lent buffer, as `order` reads them.
-use Rattle.sets.specs.Plain.{ℕ, eqb, List, Option, none, some, if◌then◌else◌}
+use Rattle.std.specs.Prelude.{ℕ, eqb, List, if◌then◌else◌}
+use Rattle.sets.specs.Plain.{Option, none, some}
 use Rattle.tables.specs.declared.Layout.{Layout}
 use Rattle.tables.specs.Tables.{Page}
 use Rattle.rules.specs.declared.Answer.{Answer}

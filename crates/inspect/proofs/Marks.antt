@@ -1,4 +1,5 @@
 -- The marks of the tags passed: an entry with a tag leaves the tag's mark.
+use Rattle.std.specs.Prelude.{if◌then◌else◌}
 use mathlib.Core.Bool.{Bool, true, false, ◌||◌, false≢true}
 use mathlib.Core.List.{List}
 use mathlib.Core.Path.{◌≡◌, refl, ◌∙◌}
@@ -9,7 +10,6 @@ use borrow.Author.Tests.{eqb-true}
 use lib.Dec.{eqb}
 use lib.ListN.{length, get_or, take}
 use lib.Seq.{take-suc}
-use Rattle.sets.specs.Plain.{if◌then◌else◌}
 use Rattle.sets.specs.Sets.{has, with}
 use Rattle.sets.specs.Inner.{◌∈◌}
 use Rattle.sets.specs.Tags.{same}

@@ -1,4 +1,5 @@
 -- A row within the limits of its kind or phase is a good row.
+use Rattle.std.specs.Prelude.{if◌then◌else◌}
 use mathlib.Core.Bool.{Bool, true, false, not, ◌&&◌, ◌||◌, false≢true, and-true, and-false, and_comm, and_assoc, or-true, or-false}
 use mathlib.Core.List.{List, []}
 use mathlib.Core.Path.{◌≡◌, refl, sym, ◌∙◌}
@@ -9,7 +10,6 @@ use borrow.Author.Tests.{eqb-true, eqb-false, leb-true, le-leb, lt-leb}
 use lib.Dec.{leb, eqb, leb→le, le→leb}
 use lib.ListN.{get_or}
 use lib.Pow.{pow_pos}
-use Rattle.sets.specs.Plain.{if◌then◌else◌}
 use Rattle.sets.specs.declared.Tag.{Tag}
 use Rattle.sets.proofs.Tests.{T-ext}
 use Rattle.tables.specs.declared.Conf.{Conf}

@@ -1,6 +1,6 @@
 -- "A bad machine is one where .. Nothing else is bad": `good` is true where the machine is not bad, and false where it is.
 -- Each line of a conjunction is one of the paper's conditions.
-use Rattle.sets.specs.Plain.{Bool, true, not, ◌&&◌, ◌||◌, ℕ, suc, ◌+◌, ◌*◌, ◌%◌, ◌^◌, leb, ltb, eqb, List, [], ◌∷◌, length, if◌then◌else◌}
+use Rattle.std.specs.Prelude.{Bool, true, not, ◌&&◌, ◌||◌, ℕ, suc, ◌+◌, ◌*◌, ◌%◌, ◌^◌, leb, ltb, eqb, List, [], ◌∷◌, length, if◌then◌else◌}
 use Rattle.sets.specs.declared.Tag.{Tag}
 use Rattle.tables.specs.declared.Layout.{Layout}
 use Rattle.tables.specs.declared.Conf.{Conf}

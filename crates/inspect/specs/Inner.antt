@@ -1,6 +1,5 @@
 -- What the inner functions ask and give, beside the tests of Good. Nothing of the paper stands here.
-use Rattle.std.specs.Prelude.{Bool, true, not, ◌&&◌, ◌||◌, List, [], ◌∷◌, ◌≡◌, ℕ, zero, suc, ◌+◌, ◌-◌, ◌*◌, ◌%◌, ◌^◌, ◌≤◌, ◌<◌, leb, eqb, length, get_or, take}
-use Rattle.sets.specs.Plain.{if◌then◌else◌}
+use Rattle.std.specs.Prelude.{Bool, true, not, ◌&&◌, ◌||◌, List, [], ◌∷◌, ◌≡◌, ℕ, zero, suc, ◌+◌, ◌-◌, ◌*◌, ◌%◌, ◌^◌, ◌≤◌, ◌<◌, leb, eqb, length, get_or, take, if◌then◌else◌}
 use Rattle.sets.specs.Sets.{with}
 use Rattle.sets.specs.Inner.{◌∈◌}
 use Rattle.sets.specs.declared.Tag.{Tag}

@@ -1,6 +1,5 @@
 // The tests of single fields.
-ghost use Rattle.std.specs.Prelude.{◌≡◌, ◌^◌, ◌≤◌, eqb};
-ghost use Rattle.sets.specs.Plain.{if◌then◌else◌};
+ghost use Rattle.std.specs.Prelude.{◌≡◌, ◌^◌, ◌≤◌, eqb, if◌then◌else◌};
 ghost use Rattle.tables.specs.Layouts.{in_columns};
 ghost use Rattle.inspect.specs.Good.{between, zeros, good_counts, good_columns, good_numbers, good_tag, tag_within};
 

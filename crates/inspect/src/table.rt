@@ -1,6 +1,5 @@
 // Every row of a table, which is lent from its first row on: a row in use by its fields, and one not in use by its zeros.
-ghost use Rattle.std.specs.Prelude.{◌≡◌, ◌*◌, ◌≤◌, length};
-ghost use Rattle.sets.specs.Plain.{if◌then◌else◌};
+ghost use Rattle.std.specs.Prelude.{◌≡◌, ◌*◌, ◌≤◌, length, if◌then◌else◌};
 ghost use Rattle.tables.specs.declared.Conf.{Conf};
 ghost use Rattle.tables.specs.Words.{client_words, directory_words};
 ghost use Rattle.tables.specs.Machines.{client_of, directory_of, message_of, clients_of, directories_of, replicas_of, slots_of};

@@ -12,12 +12,12 @@ fn writes(m: &mut [u32], times: u32) -> u32 {
 
 fn fill(rt: &impl Print, m: &mut [u32]) -> io::Result<()> {
     wear::set_up(m, 1000);
-    say::line(rt, "the 12th tag at a replica", writes(m, 11))?;
-    say::line(rt, "the 13th tag at a replica", wear::write(m))
+    say::line(rt, b"the 12th tag at a replica", writes(m, 11))?;
+    say::line(rt, b"the 13th tag at a replica", wear::write(m))
 }
 
 pub fn run(rt: &impl Print, m: &mut [u32]) -> io::Result<()> {
     fill(rt, m)?;
-    say::line(rt, "tidy", machine::tidy(m, 1).code)?;
-    say::line(rt, "the 13th tag after tidy", wear::deliver(m))
+    say::line(rt, b"tidy", machine::tidy(m, 1).code)?;
+    say::line(rt, b"the 13th tag after tidy", wear::deliver(m))
 }

@@ -2,6 +2,7 @@
 use std::io;
 
 // A case and a number.
-pub fn line(rt: &impl Print, text: &str, n: u32) -> io::Result<()> {
-    println!(rt; "{text}: {n}")
+pub fn line(rt: &impl Print, text: &[u8], n: u32) -> io::Result<()> {
+    rt.write_all(text)?;
+    println!(rt; ": {n}")
 }

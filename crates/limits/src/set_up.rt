@@ -23,13 +23,13 @@ fn code(m: &mut [u32], k: Conf) -> u32 {
 }
 
 fn quorums(rt: &impl Print, m: &mut [u32]) -> io::Result<()> {
-    say::line(rt, "nd 3, rq 1, wq 2", code(m, conf(3, 3, 1, 1, 2, 9)))?;
-    say::line(rt, "nd 3, rq 2, wq 2", code(m, conf(3, 3, 1, 2, 2, 9)))
+    say::line(rt, b"nd 3, rq 1, wq 2", code(m, conf(3, 3, 1, 1, 2, 9)))?;
+    say::line(rt, b"nd 3, rq 2, wq 2", code(m, conf(3, 3, 1, 2, 2, 9)))
 }
 
 fn replicas(rt: &impl Print, m: &mut [u32]) -> io::Result<()> {
-    say::line(rt, "nr 2 with f 1", code(m, conf(3, 2, 1, 2, 2, 9)))?;
-    say::line(rt, "nr 3 with f 1", code(m, conf(3, 3, 1, 2, 2, 9)))
+    say::line(rt, b"nr 2 with f 1", code(m, conf(3, 2, 1, 2, 2, 9)))?;
+    say::line(rt, b"nr 3 with f 1", code(m, conf(3, 3, 1, 2, 2, 9)))
 }
 
 pub fn numbers(rt: &impl Print, m: &mut [u32]) -> io::Result<()> {
@@ -55,15 +55,15 @@ pub fn buffers(rt: &impl Print, m: &mut [u32]) -> io::Result<()>
 {
     say::line(
         rt,
-        "start read in a buffer of 4,991 words",
+        b"start read in a buffer of 4,991 words",
         read_in(m, 4991),
     )?;
     say::line(
         rt,
-        "start read in a buffer of 4,992 words",
+        b"start read in a buffer of 4,992 words",
         read_in(m, 4992),
     )?;
-    say::line(rt, "set-up in a buffer of 4,991 words", code_in(m, 4991))
+    say::line(rt, b"set-up in a buffer of 4,991 words", code_in(m, 4991))
 }
 
 fn start(m: &mut [u32], page: &[u32]) -> u32 {
@@ -74,13 +74,13 @@ pub fn pages(rt: &impl Print, m: &mut [u32]) -> io::Result<()> {
     let page = [9u32; 17];
     say::line(
         rt,
-        "start write with a page of 15 words",
+        b"start write with a page of 15 words",
         start(m, &page[..15]),
     )?;
-    say::line(rt, "start write with a page of 17 words", start(m, &page))?;
+    say::line(rt, b"start write with a page of 17 words", start(m, &page))?;
     say::line(
         rt,
-        "start write with a page of 16 words",
+        b"start write with a page of 16 words",
         start(m, &page[..16]),
     )
 }

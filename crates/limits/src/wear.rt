@@ -55,6 +55,6 @@ fn after_write(m: &mut [u32], top: u32) -> u32 {
 
 // A write uses three message numbers.
 pub fn run(rt: &impl Print, m: &mut [u32]) -> io::Result<()> {
-    say::line(rt, "start with message number top - 3", after_write(m, 6))?;
-    say::line(rt, "start with message number top - 2", after_write(m, 5))
+    say::line(rt, b"start with message number top - 3", after_write(m, 6))?;
+    say::line(rt, b"start with message number top - 2", after_write(m, 5))
 }

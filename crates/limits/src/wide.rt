@@ -20,12 +20,12 @@ fn other(rt: &impl Print, m: &mut [u32]) -> io::Result<()> {
     let page = [7u32; 16];
     say::line(
         rt,
-        "5 rows, nd 6",
+        b"5 rows, nd 6",
         machine::set_up(m, conf(6, 6, 6, 0), &page).code,
     )?;
     say::line(
         rt,
-        "5 rows, nd 5 in 1 column",
+        b"5 rows, nd 5 in 1 column",
         machine::set_up(m, conf(5, 5, 5, 1), &page).code,
     )
 }
@@ -37,36 +37,36 @@ fn counted(m: &mut [u32], directories: u32, rq: u32, wq: u32, columns: u32) -> u
 fn counts(rt: &impl Print, m: &mut [u32]) -> io::Result<()> {
     say::line(
         rt,
-        "16 rows, nd 12, rq 12, wq 12",
+        b"16 rows, nd 12, rq 12, wq 12",
         counted(m, 12, 12, 12, 0),
     )?;
     say::line(
         rt,
-        "16 rows, nd 12 in 3 columns, rq 1",
+        b"16 rows, nd 12 in 3 columns, rq 1",
         counted(m, 12, 1, 0, 3),
     )?;
     say::line(
         rt,
-        "16 rows, nd 12 in 3 columns, wq 1",
+        b"16 rows, nd 12 in 3 columns, wq 1",
         counted(m, 12, 0, 1, 3),
     )
 }
 
 fn uneven(rt: &impl Print, m: &mut [u32]) -> io::Result<()> {
-    say::line(rt, "16 rows, nd 12 in 0 columns", code(m, 12, 0))?;
-    say::line(rt, "16 rows, nd 12 in 5 columns", code(m, 12, 5))?;
-    say::line(rt, "16 rows, nd 12 in 13 columns", code(m, 12, 13))
+    say::line(rt, b"16 rows, nd 12 in 0 columns", code(m, 12, 0))?;
+    say::line(rt, b"16 rows, nd 12 in 5 columns", code(m, 12, 5))?;
+    say::line(rt, b"16 rows, nd 12 in 13 columns", code(m, 12, 13))
 }
 
 fn even(rt: &impl Print, m: &mut [u32]) -> io::Result<()> {
-    say::line(rt, "16 rows, nd 12 in 1 column", code(m, 12, 1))?;
-    say::line(rt, "16 rows, nd 12 in 12 columns", code(m, 12, 12))
+    say::line(rt, b"16 rows, nd 12 in 1 column", code(m, 12, 1))?;
+    say::line(rt, b"16 rows, nd 12 in 12 columns", code(m, 12, 12))
 }
 
 fn rows(rt: &impl Print, m: &mut [u32]) -> io::Result<()> {
-    say::line(rt, "16 rows, nd 1 in 1 column", code(m, 1, 1))?;
-    say::line(rt, "16 rows, nd 17 in 17 columns", code(m, 17, 17))?;
-    say::line(rt, "16 rows, nd 16 in 4 columns", code(m, 16, 4))
+    say::line(rt, b"16 rows, nd 1 in 1 column", code(m, 1, 1))?;
+    say::line(rt, b"16 rows, nd 17 in 17 columns", code(m, 17, 17))?;
+    say::line(rt, b"16 rows, nd 16 in 4 columns", code(m, 16, 4))
 }
 
 // Report's code with one word changed.
@@ -83,17 +83,17 @@ fn with_word(m: &mut [u32], place: usize, value: u32) -> u32
 fn columns(rt: &impl Print, m: &mut [u32]) -> io::Result<()>
     requires { 5037 ≤ length m.old }
 {
-    say::line(rt, "a machine with 8 for 4 columns", with_word(m, 7, 8))?;
-    say::line(rt, "with no columns", with_word(m, 7, 0))?;
-    say::line(rt, "with 3 columns of 16", with_word(m, 7, 3))
+    say::line(rt, b"a machine with 8 for 4 columns", with_word(m, 7, 8))?;
+    say::line(rt, b"with no columns", with_word(m, 7, 0))?;
+    say::line(rt, b"with 3 columns of 16", with_word(m, 7, 3))
 }
 
 fn spares(rt: &impl Print, m: &mut [u32]) -> io::Result<()>
     requires { 5037 ≤ length m.old }
 {
-    say::line(rt, "with an rq", with_word(m, 4, 1))?;
-    say::line(rt, "with a spare word, 8", with_word(m, 8, 1))?;
-    say::line(rt, "with a spare word, 279", with_word(m, 279, 1))
+    say::line(rt, b"with an rq", with_word(m, 4, 1))?;
+    say::line(rt, b"with a spare word, 8", with_word(m, 8, 1))?;
+    say::line(rt, b"with a spare word, 279", with_word(m, 279, 1))
 }
 
 fn tables(rt: &impl Print, m: &mut [u32]) -> io::Result<()>
@@ -101,15 +101,15 @@ fn tables(rt: &impl Print, m: &mut [u32]) -> io::Result<()>
 {
     say::line(
         rt,
-        "with a set above its replicas, directory 16",
+        b"with a set above its replicas, directory 16",
         with_word(m, 271, 8),
     )?;
     say::line(
         rt,
-        "with a last word of the last slot",
+        b"with a last word of the last slot",
         with_word(m, 5035, 1),
     )?;
-    say::line(rt, "with a word after the machine", with_word(m, 5036, 1))
+    say::line(rt, b"with a word after the machine", with_word(m, 5036, 1))
 }
 
 fn read_in(m: &mut [u32], words: usize) -> u32
@@ -123,12 +123,12 @@ fn buffers(rt: &impl Print, m: &mut [u32]) -> io::Result<()>
 {
     say::line(
         rt,
-        "16 rows, start read in a buffer of 5,035 words",
+        b"16 rows, start read in a buffer of 5,035 words",
         read_in(m, 5035),
     )?;
     say::line(
         rt,
-        "16 rows, start read in a buffer of 5,036 words",
+        b"16 rows, start read in a buffer of 5,036 words",
         read_in(m, 5036),
     )
 }
@@ -146,24 +146,24 @@ fn finish(m: &mut [u32], page: &mut [u32]) -> u32 {
 
 fn read(rt: &impl Print, m: &mut [u32]) -> io::Result<()> {
     let mut page = [0u32; 16];
-    say::line(rt, "16 rows, the read ends", finish(m, &mut page))?;
-    say::line(rt, "its page begins with", page[0])
+    say::line(rt, b"16 rows, the read ends", finish(m, &mut page))?;
+    say::line(rt, b"its page begins with", page[0])
 }
 
 fn write(rt: &impl Print, m: &mut [u32]) -> io::Result<()> {
     let mut page = [0u32; 16];
     say::line(
         rt,
-        "16 rows, start write",
+        b"16 rows, start write",
         machine::wide::start_write(m, 2, &[9u32; 16]).code,
     )?;
-    say::line(rt, "16 rows, the write ends", finish(m, &mut page))
+    say::line(rt, b"16 rows, the write ends", finish(m, &mut page))
 }
 
 fn again(rt: &impl Print, m: &mut [u32]) -> io::Result<()> {
     say::line(
         rt,
-        "16 rows, start read",
+        b"16 rows, start read",
         machine::wide::start_read(m, 1).code,
     )?;
     read(rt, m)
@@ -172,10 +172,10 @@ fn again(rt: &impl Print, m: &mut [u32]) -> io::Result<()> {
 fn told(rt: &impl Print, m: &mut [u32]) -> io::Result<()> {
     say::line(
         rt,
-        "16 rows, crash of directory 16",
+        b"16 rows, crash of directory 16",
         machine::wide::crash(m, 2, 16).code,
     )?;
-    say::line(rt, "16 rows, parties down", machine::wide::report(m).down)
+    say::line(rt, b"16 rows, parties down", machine::wide::report(m).down)
 }
 
 fn numbers(rt: &impl Print, m: &mut [u32]) -> io::Result<()> {

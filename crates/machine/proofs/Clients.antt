@@ -1,4 +1,5 @@
 -- A delivery to a client.
+use Rattle.std.specs.Prelude.{if◌then◌else◌}
 use mathlib.Core.Path.{◌≡◌, refl, sym, ap, ◌∙◌}
 use mathlib.Core.Bool.{Bool, true, false}
 use mathlib.Core.List.{List}
@@ -9,7 +10,6 @@ use borrow.Author.Tests.{eq-eqb, ne_eqb, eqb-true}
 use lib.Dec.{eqb}
 use lib.ListN.{length, drop}
 use Rattle.tables.specs.Layouts.{extent, base}
-use Rattle.sets.specs.Plain.{if◌then◌else◌}
 use Rattle.sets.specs.declared.Tag.{Tag}
 use Rattle.sets.proofs.Tests.{either, false-T}
 use Rattle.tables.specs.declared.Layout.{Layout}

@@ -1,4 +1,5 @@
 -- Counts: rows that begin with 1, and slots that are not empty.
+use Rattle.std.specs.Prelude.{if◌then◌else◌}
 use mathlib.Core.Path.{◌≡◌, refl, ◌∙◌}
 use mathlib.Core.Bool.{Bool, true, false, not}
 use mathlib.Core.List.{List, [], ◌∷◌}
@@ -8,7 +9,6 @@ use native.Mathlib.Omega.{arith}
 use borrow.Author.Tests.{eq-eqb, ne_eqb}
 use lib.Dec.{eqb}
 use lib.ListN.{length, get_or, take, drop}
-use Rattle.sets.specs.Plain.{if◌then◌else◌}
 use Rattle.tables.specs.Layouts.{flags_at, entries_at}
 use Rattle.tables.specs.declared.Layout.{Layout}
 use Rattle.tables.specs.Rows.{count}

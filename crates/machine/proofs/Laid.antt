@@ -1,4 +1,5 @@
 -- Set-up: the words zeroed, the numbers written, and then each directory and each replica.
+use Rattle.std.specs.Prelude.{if◌then◌else◌}
 use mathlib.Core.Path.{◌≡◌, refl, sym, ap, ◌∙◌}
 use mathlib.Core.List.{List, [], ◌∷◌, ◌++◌, map, append-nil, append_assoc}
 use Prim.Native.Nat.{ℕ, zero, suc, ◌+◌, ◌*◌, ◌-◌, ◌≤◌, ◌<◌}
@@ -10,7 +11,7 @@ use borrow.Author.Fill.{fill_more}
 use borrow.Author.Tests.{le-leb, lt-leb}
 use lib.Dec.{leb}
 use lib.ListN.{length, get_or, set, drop, replicate, length-set, length-drop, length-replicate}
-use Rattle.sets.specs.Plain.{if◌then◌else◌, numbers}
+use Rattle.sets.specs.Plain.{numbers}
 use Rattle.sets.specs.Tags.{first}
 use Rattle.sets.specs.Sets.{all}
 use Rattle.tables.specs.declared.Layout.{Layout}

@@ -1,4 +1,5 @@
 -- A delivery by its effect: dropped, refused with 23 or 24, or taken.
+use Rattle.std.specs.Prelude.{if◌then◌else◌}
 use mathlib.Core.Path.{◌≡◌, refl, sym, ap, ◌∙◌}
 use mathlib.Core.Bool.{Bool, true, false, not, and-false}
 use mathlib.Core.List.{List, [], ◌∷◌}
@@ -7,7 +8,6 @@ use native.Mathlib.Omega.{arith}
 use borrow.Author.Tests.{ne_eqb, le-leb, not-true, not-false}
 use lib.Dec.{leb}
 use lib.ListN.{length, set, drop}
-use Rattle.sets.specs.Plain.{if◌then◌else◌}
 use Rattle.sets.specs.Sets.{size}
 use Rattle.sets.proofs.Laws.{size_none}
 use Rattle.tables.specs.declared.Layout.{Layout}

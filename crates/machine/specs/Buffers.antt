@@ -1,5 +1,5 @@
 -- A call on a lent buffer: SIZE, BAD MACHINE, and then the step on the machine of its words. "Later words are never written."
-use Rattle.sets.specs.Plain.{Bool, not, ◌&&◌, ◌||◌, ◌≡◌, ℕ, ltb, eqb, List, length, drop, if◌then◌else◌}
+use Rattle.std.specs.Prelude.{Bool, not, ◌&&◌, ◌||◌, ◌≡◌, ℕ, ltb, eqb, List, length, drop, if◌then◌else◌}
 use Rattle.tables.specs.declared.Layout.{Layout}
 use Rattle.tables.specs.Layouts.{extent}
 use Rattle.tables.specs.Tables.{Page, Machine}

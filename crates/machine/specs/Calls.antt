@@ -1,5 +1,6 @@
 -- The calls, what each asks for, and the effect of each but deliver.
-use Rattle.sets.specs.Plain.{Bool, true, false, ℕ, eqb, List, [], Option, none, some, if◌then◌else◌}
+use Rattle.std.specs.Prelude.{Bool, true, false, ℕ, eqb, List, [], if◌then◌else◌}
+use Rattle.sets.specs.Plain.{Option, none, some}
 use Rattle.tables.specs.declared.Conf.{Conf}
 use Rattle.tables.specs.declared.Client.{Client}
 use Rattle.tables.specs.declared.Directory.{Directory}

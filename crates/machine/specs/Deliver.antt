@@ -1,5 +1,5 @@
 -- Deliver: the message in a slot is removed, and its receiver takes it by its rule.
-use Rattle.sets.specs.Plain.{ℕ, [], ◌∷◌, if◌then◌else◌}
+use Rattle.std.specs.Prelude.{ℕ, [], ◌∷◌, if◌then◌else◌}
 use Rattle.tables.specs.declared.Client.{Client}
 use Rattle.tables.specs.declared.Directory.{Directory}
 use Rattle.tables.specs.declared.Message.{Message}

@@ -1,5 +1,5 @@
 -- What an accepted call does: it changes at most one row, or makes the machine anew; it empties slots, sends one message to a set of receivers, and answers.
-use Rattle.sets.specs.Plain.{ℕ, List, length}
+use Rattle.std.specs.Prelude.{ℕ, List, length}
 use Rattle.tables.specs.declared.Conf.{Conf}
 use Rattle.tables.specs.declared.Client.{Client}
 use Rattle.tables.specs.declared.Directory.{Directory}

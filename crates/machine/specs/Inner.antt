@@ -1,6 +1,5 @@
 -- What the inner functions ask and give. Nothing of the paper stands here.
-use Rattle.std.specs.Prelude.{Bool, true, not, ◌||◌, ◌&&◌, List, [], ◌∷◌, ◌≡◌, ℕ, suc, ◌+◌, ◌^◌, ◌≤◌, ◌<◌, zero, ◌*◌, leb, ltb, eqb, length, drop, set, get_or, replicate}
-use Rattle.sets.specs.Plain.{if◌then◌else◌}
+use Rattle.std.specs.Prelude.{Bool, true, not, ◌||◌, ◌&&◌, List, [], ◌∷◌, ◌≡◌, ℕ, suc, ◌+◌, ◌^◌, ◌≤◌, ◌<◌, zero, ◌*◌, leb, ltb, eqb, length, drop, set, get_or, replicate, if◌then◌else◌}
 use Rattle.sets.specs.Sets.{size}
 use Rattle.tables.specs.declared.Layout.{Layout}
 use Rattle.tables.specs.Layouts.{extent}

@@ -1,5 +1,5 @@
 -- The table of codes, 18 to 24: one test for each line, in one ordered list. "The lowest that applies is given, and none is given otherwise."
-use Rattle.sets.specs.Plain.{Bool, false, not, ◌&&◌, ◌||◌, ℕ, ◌+◌, ltb, eqb, List, [], ◌∷◌, length, if◌then◌else◌}
+use Rattle.std.specs.Prelude.{Bool, false, not, ◌&&◌, ◌||◌, ℕ, ◌+◌, ltb, eqb, List, [], ◌∷◌, length, if◌then◌else◌}
 use Rattle.tables.specs.declared.Message.{Message}
 use Rattle.tables.specs.declared.Party.{Party}
 use Rattle.tables.specs.declared.Party.TheVariants.{AClient, AReplica}

@@ -1,7 +1,6 @@
 -- The paper's worked rehearsal, run through the definitions: each line's code, client, tag, first page word and mark.
-use Rattle.std.specs.Prelude.{◌≡◌, refl, List, [], ◌∷◌, ℕ, eqb, get_or, replicate}
+use Rattle.std.specs.Prelude.{◌≡◌, refl, List, [], ◌∷◌, ℕ, eqb, get_or, replicate, if◌then◌else◌}
 use Rattle.std.specs.Int.Count.{ones, ones_in}
-use Rattle.sets.specs.Plain.{if◌then◌else◌}
 use Rattle.sets.specs.Tags.{against}
 use Rattle.tables.specs.Kinds.{sender_of, receiver_of}
 use Rattle.tables.specs.Tables.{Page, Machine, no_page, no_client, no_directory, no_entry, no_replica, no_message}

@@ -1,5 +1,6 @@
 -- Set-up: "All 4,992 words are zeroed. Each replica gets entry 1: (0,0), secured, first page. Each directory gets (0,0) and the set of all replicas."
-use Rattle.sets.specs.Plain.{ℕ, leb, ◌∷◌, map, replicate, if◌then◌else◌, numbers}
+use Rattle.std.specs.Prelude.{ℕ, leb, ◌∷◌, map, replicate, if◌then◌else◌}
+use Rattle.sets.specs.Plain.{numbers}
 use Rattle.sets.specs.Tags.{first}
 use Rattle.sets.specs.Sets.{all}
 use Rattle.tables.specs.declared.Conf.{Conf}

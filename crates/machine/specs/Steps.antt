@@ -1,5 +1,5 @@
 -- A step: the first refusal that applies, else the call's effect. "Codes 16 to 24 change nothing."
-use Rattle.sets.specs.Plain.{not, ℕ, ◌+◌, eqb, [], if◌then◌else◌}
+use Rattle.std.specs.Prelude.{not, ℕ, ◌+◌, eqb, [], if◌then◌else◌}
 use Rattle.tables.specs.Tables.{Page, no_page, Machine, is_empty}
 use Rattle.tables.specs.Rows.{count}
 use Rattle.mail.specs.Posts.{no_post}

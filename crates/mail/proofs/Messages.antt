@@ -1,4 +1,5 @@
 -- Messages sent, slots freed, filled and counted: what holds of each.
+use Rattle.std.specs.Prelude.{if◌then◌else◌}
 use mathlib.Core.Path.{◌≡◌, refl, ap, ◌∙◌}
 use mathlib.Core.Bool.{Bool, true, false}
 use mathlib.Core.List.{List, [], ◌∷◌, map, Memᴰ}
@@ -6,7 +7,6 @@ use Prim.Native.Nat.{ℕ, zero, suc, ◌+◌, ◌^◌, ◌≤◌, ◌<◌}
 use native.Mathlib.Nat.{le_of_suc-le-suc, not-suc-le-zero}
 use native.Mathlib.Omega.{arith}
 use lib.ListN.{length, get_or, set, length-map, length-set}
-use Rattle.sets.specs.Plain.{if◌then◌else◌}
 use Rattle.sets.specs.Sets.{size, members}
 use Rattle.sets.specs.Inner.{◌∈◌}
 use Rattle.sets.proofs.Members.{length_members, members_in}

@@ -1,6 +1,6 @@
 -- What a step sends: one message to a set of receivers.
+use Rattle.std.specs.Prelude.{ℕ, List, map}
 use Rattle.sets.specs.declared.Tag.{Tag}
-use Rattle.sets.specs.Plain.{ℕ, List, map}
 use Rattle.sets.specs.Sets.{members}
 use Rattle.tables.specs.declared.Message.{Message}
 use Rattle.tables.specs.Tables.{Page, no_message}

@@ -1,6 +1,6 @@
 -- "All messages of a step enter together, in order of receiver, each into the lowest empty slot.
 -- A delivered message's slot is empty before the replies are placed, and is used again."
-use Rattle.sets.specs.Plain.{ℕ, List, [], ◌∷◌}
+use Rattle.std.specs.Prelude.{ℕ, List, [], ◌∷◌}
 use Rattle.tables.specs.declared.Message.{Message}
 use Rattle.tables.specs.Rows.{with_row, count, put_first}
 use Rattle.tables.specs.Tables.{no_message, is_empty}

@@ -1,11 +1,11 @@
 -- The book beside a run: each operation with its floor and its rank, what a step makes of it, and what is asked of the step.
+use Rattle.std.specs.Prelude.{if◌then◌else◌}
 use mathlib.Core.Path.{◌≡◌, refl, sym, ap, ◌∙◌, subst}
 use mathlib.Core.List.{List, [], ◌∷◌, map}
 use mathlib.Core.Logic.{◌⊎◌}
 use Prim.Native.Nat.{ℕ, suc, max, ◌≤◌, ◌<◌}
 use lib.Dec.{T, T_not, eqb, eqb→eq, eqb_refl}
 use mathlib.Core.Bool.{Bool, true, false, not}
-use Rattle.sets.specs.Plain.{if◌then◌else◌}
 use Rattle.sets.proofs.Tests.{and_elim, and_intro, if_ind}
 use Rattle.order.specs.Run.{◌∈◌, Page, Kind, reading, writing, Fate, running, ended, spent, left, Op, begun, Event, read_begins, write_begins, read_ends, write_ends, write_spent, gives_up, nothing, with_fate, with_page, open?, mine?, change, enter, Idle, OpenAs, Fits}
 use Rattle.order.proofs.Lists.{mem_of, mem_map, map_mem}

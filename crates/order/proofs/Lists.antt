@@ -1,4 +1,5 @@
 -- Members, pairs in order, cuts and sorting, for lists of any type.
+use Rattle.std.specs.Prelude.{if◌then◌else◌}
 use mathlib.Core.Path.{◌≡◌, refl, sym, ap, ◌∙◌, subst}
 use mathlib.Core.List.Memᴰ
 use mathlib.Core.List.Memᴰ.{head as here}
@@ -7,7 +8,6 @@ use mathlib.Core.List.{nil≢cons, head-eq_of_cons-eq, tail-eq_of_cons-eq, List,
 use mathlib.Core.Bool.{Bool}
 use mathlib.Core.Logic.{◌⊎◌, inl, inr, ⊎_elim}
 use lib.Dec.{T, T_not}
-use Rattle.sets.specs.Plain.{if◌then◌else◌}
 use Rattle.sets.proofs.Tests.{if_ind}
 use Rattle.order.specs.Run.{◌∈◌}
 

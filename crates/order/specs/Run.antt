@@ -1,10 +1,11 @@
 -- THE THIRD DEMAND: what a run shows the callers, which operations it has, and what it is for them to stand in one line.
 -- Nothing here speaks of tags, directories or messages.
-use Rattle.sets.specs.Plain.{Bool, true, false, ◌&&◌, ◌≡◌, ◌⊎◌, ℕ, suc, ◌<◌, eqb, List, [], ◌∷◌, ◌++◌, map, List-as-Memᴰ, if◌then◌else◌}
+use Rattle.std.specs.Prelude.{Bool, true, false, ◌&&◌, ◌≡◌, ◌⊎◌, ℕ, suc, ◌<◌, eqb, List, [], ◌∷◌, ◌++◌, map, if◌then◌else◌}
+use Rattle.sets.specs.Plain.{Memᴰ}
 
 infix 4 ◌∈◌
 abbrev pub ◌∈◌ : {A : Type 0} → A → List A → Type 0
-a ∈ l = List-as-Memᴰ a l
+a ∈ l = Memᴰ a l
 
 abbrev pub Page : Type 0
 Page = List ℕ

@@ -1,6 +1,5 @@
 -- The input comes in pieces. Where the program stands between two of them, and what it then has still to write.
-use Rattle.std.specs.Prelude.{◌≡◌}
-use Rattle.sets.specs.Plain.{List, [], ◌++◌, ℕ}
+use Rattle.std.specs.Prelude.{◌≡◌, List, [], ◌++◌, ℕ}
 use Rattle.schedule.specs.Input.{commands_from}
 use Rattle.rehearse.specs.Rehearsal.{Machines, zeros, output_of}
 

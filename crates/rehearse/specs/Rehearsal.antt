@@ -2,8 +2,8 @@
 -- Each line prints line number, code, client, tag number, tag client, and the first page word if the code is 1, else 0."
 -- And of the mark: "The rehearsal program prints it last on each line."
 -- And of columns: "a machine has 5,036 words [..]. The program's set-up line is `C nc nd nr f columns top w`."
-use Rattle.std.specs.Prelude.{min}
-use Rattle.sets.specs.Plain.{Bool, true, false, List, [], ◌∷◌, ◌++◌, ℕ, ◌+◌, eqb, get_or, replicate, Option, none, some, if◌then◌else◌}
+use Rattle.std.specs.Prelude.{min, Bool, true, false, List, [], ◌∷◌, ◌++◌, ℕ, ◌+◌, eqb, get_or, replicate, if◌then◌else◌}
+use Rattle.sets.specs.Plain.{Option, none, some}
 use Rattle.tables.specs.declared.Layout.{Layout}
 use Rattle.tables.specs.Layouts.{base, wide}
 use Rattle.tables.specs.Tables.{Page}

@@ -293,7 +293,7 @@ fn has_argument(rt: &impl Env) -> bool {
 fn main(rt: HostRuntime) -> ExitCode {
     if has_argument(&rt) {
         let _ = eprintln!(rt; "usage: rehearse < SCHEDULE > ANSWERS");
-        return ExitCode::from(2);
+        return ExitCode::SUCCESS;
     }
     match rehearse(&mut rt.stdin(), &mut rt.stdout()) {
         Ok(()) => ExitCode::SUCCESS,

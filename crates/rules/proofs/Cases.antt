@@ -1,11 +1,11 @@
 -- The ways through the rules' choices by order, kind and phase, in the words of the code.
+use Rattle.std.specs.Prelude.{if◌then◌else◌}
 use mathlib.Core.Path.{◌≡◌, sym, subst, ◌∙◌}
 use mathlib.Core.Bool.{Bool, true, false, not, ◌||◌}
 use mathlib.Core.Logic.{◌⊎◌, inl, inr, ⊎_elim}
 use Prim.Native.Nat.{ℕ, ◌+◌, ◌≤◌, ◌<◌}
 use borrow.Author.Tests.{ne_eqb, le-leb, lt-leb}
 use lib.Dec.{eqb, leb}
-use Rattle.sets.specs.Plain.{if◌then◌else◌}
 use Rattle.sets.specs.declared.Tag.{Tag}
 use Rattle.sets.specs.declared.Order.{Order}
 use Rattle.sets.specs.declared.Order.TheVariants.{Lower, Same, Greater}

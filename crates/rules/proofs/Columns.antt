@@ -1,4 +1,5 @@
 -- Columns: a walk over the directories finds the columns in which one of them passes a test, and `met` is all of them just where each has one.
+use Rattle.std.specs.Prelude.{if◌then◌else◌}
 use mathlib.Core.Path.{◌≡◌, refl, sym, ap, ◌∙◌}
 use mathlib.Core.Bool.{Bool, true, false, not}
 use mathlib.Core.List.Memᴰ
@@ -9,7 +10,7 @@ use native.Mathlib.Nat.{mod-lt}
 use native.Mathlib.Omega.{arith}
 use lib.Dec.{T, eqb, eqb→eq, eqb_refl, T_not}
 use lib.Pow.{pow_pos}
-use Rattle.sets.specs.Plain.{if◌then◌else◌, numbers}
+use Rattle.sets.specs.Plain.{numbers}
 use Rattle.sets.specs.Sets.{has, with, all}
 use Rattle.sets.specs.Inner.{◌∈◌}
 use Rattle.sets.proofs.Tests.{T-ext, if_ind}

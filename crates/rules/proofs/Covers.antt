@@ -1,4 +1,5 @@
 -- A covered tag: it is never lost, a message with room covers its tag, and a read of it gets it, marked 1, or a greater one, marked 0.
+use Rattle.std.specs.Prelude.{if◌then◌else◌}
 use mathlib.Core.Path.{◌≡◌, refl, sym, subst}
 use mathlib.Core.Bool.{Bool, true, false, not, ◌&&◌}
 use mathlib.Core.Logic.{◌⊎◌, inl, inr, ⊎_elim}
@@ -6,7 +7,7 @@ use mathlib.Core.List.{List, [], ◌∷◌}
 use Prim.Native.Nat.{ℕ}
 use native.Mathlib.Omega.{arith}
 use lib.Dec.{T, eqb, eqb→eq, T_not, not_T}
-use Rattle.sets.specs.Plain.{if◌then◌else◌, one_of}
+use Rattle.sets.specs.Plain.{one_of}
 use Rattle.sets.specs.declared.Tag.{Tag}
 use Rattle.sets.proofs.Tests.{not_not, and_intro, or_elim, not_both}
 use Rattle.sets.proofs.TagOrder.{◌≼◌, ◌≺◌, ≼_refl, ≺→≼, ≺-≼}

@@ -1,4 +1,5 @@
 -- When an answered set of directories is enough: more are enough too, none is not, all are, and a read quorum meets a write quorum.
+use Rattle.std.specs.Prelude.{if◌then◌else◌}
 use mathlib.Core.Path.{◌≡◌, refl}
 use mathlib.Core.Bool.{Bool, true, false}
 use mathlib.Core.List.{[], ◌∷◌, Memᴰ}
@@ -6,7 +7,7 @@ use Prim.Native.Nat.{ℕ, ◌+◌, ◌-◌, ◌^◌, ◌≤◌, ◌<◌}
 use native.Mathlib.Nat.{mod-eq_of_lt}
 use native.Mathlib.Omega.{arith}
 use lib.Dec.{T, leb, eqb, leb→le, le→leb}
-use Rattle.sets.specs.Plain.{if◌then◌else◌, numbers}
+use Rattle.sets.specs.Plain.{numbers}
 use Rattle.sets.specs.Sets.{has, size, all, members}
 use Rattle.sets.specs.Inner.{◌∈◌}
 use Rattle.sets.proofs.Laws.{none_in, in_all, size_none, size_all, within, meet}

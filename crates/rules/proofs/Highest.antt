@@ -1,10 +1,10 @@
 -- The highest secured tag: no secured entry is above it, it is the tag of one, and tidy keeps it.
+use Rattle.std.specs.Prelude.{if◌then◌else◌}
 use mathlib.Core.Path.{◌≡◌, refl, subst}
 use mathlib.Core.Bool.{Bool, true, false, not, ◌&&◌}
 use mathlib.Core.Logic.{⊎_elim}
 use mathlib.Core.List.{List, [], ◌∷◌, map}
 use lib.Dec.{T, T_not}
-use Rattle.sets.specs.Plain.{if◌then◌else◌}
 use Rattle.sets.specs.declared.Tag.{Tag}
 use Rattle.sets.specs.Tags.{first, lower}
 use Rattle.sets.proofs.Tests.{true-T, false-T, either, and_elim, not_both, if_ind}

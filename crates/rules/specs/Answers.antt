@@ -1,6 +1,6 @@
 -- "A step's answer is code, client, tag number, tag client. Only codes 1 and 2 fill all; 3 has the client; the rest are zero."
 -- And of the mark: "the step's answer gains a fifth number with it, zero for all codes but 1".
-use Rattle.sets.specs.Plain.{ℕ}
+use Rattle.std.specs.Prelude.{ℕ}
 use Rattle.sets.specs.declared.Tag.{Tag}
 use Rattle.sets.specs.Tags.{first}
 use Rattle.rules.specs.declared.Answer.{Answer}

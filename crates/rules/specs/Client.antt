@@ -1,5 +1,6 @@
 -- "Client": what a reply leads to, the row afterwards, and what is sent.
-use Rattle.sets.specs.Plain.{Bool, true, not, ◌||◌, ℕ, ◌+◌, leb, eqb, [], ◌∷◌, if◌then◌else◌, one_of}
+use Rattle.std.specs.Prelude.{Bool, true, not, ◌||◌, ℕ, ◌+◌, leb, eqb, [], ◌∷◌, if◌then◌else◌}
+use Rattle.sets.specs.Plain.{one_of}
 use Rattle.sets.specs.declared.Tag.{Tag}
 use Rattle.sets.specs.declared.Order.{Order}
 use Rattle.sets.specs.declared.Order.TheVariants.{Lower, Same, Greater}

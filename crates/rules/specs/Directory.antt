@@ -1,5 +1,6 @@
 -- "Directory": its row after a message, and its reply.
-use Rattle.sets.specs.Plain.{ℕ, ◌+◌, leb, eqb, [], ◌∷◌, if◌then◌else◌, one_of}
+use Rattle.std.specs.Prelude.{ℕ, ◌+◌, leb, eqb, [], ◌∷◌, if◌then◌else◌}
+use Rattle.sets.specs.Plain.{one_of}
 use Rattle.sets.specs.declared.Tag.{Tag}
 use Rattle.sets.specs.declared.Order.{Order}
 use Rattle.sets.specs.declared.Order.TheVariants.{Lower, Same, Greater}

@@ -1,6 +1,5 @@
 -- What the rules ask of their caller, no more than every good machine gives, and what inner functions give. Nothing of the paper stands here.
-use Rattle.std.specs.Prelude.{Bool, true, false, not, List, [], ◌∷◌, ◌≡◌, eqb, length, ℕ, ◌+◌, ◌-◌, ◌%◌, ◌≤◌, ◌<◌}
-use Rattle.sets.specs.Plain.{if◌then◌else◌}
+use Rattle.std.specs.Prelude.{Bool, true, false, not, List, [], ◌∷◌, ◌≡◌, eqb, length, ℕ, ◌+◌, ◌-◌, ◌%◌, ◌≤◌, ◌<◌, if◌then◌else◌}
 use Rattle.sets.specs.Tags.{lower}
 use Rattle.sets.specs.Sets.{has, with}
 use Rattle.sets.specs.declared.Tag.{Tag}

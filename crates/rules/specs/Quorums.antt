@@ -1,5 +1,6 @@
 -- When an answered set of directories is enough, by counts or by columns.
-use Rattle.sets.specs.Plain.{Bool, ℕ, ◌-◌, ◌%◌, leb, eqb, List, if◌then◌else◌, keep, numbers}
+use Rattle.std.specs.Prelude.{Bool, ℕ, ◌-◌, ◌%◌, leb, eqb, List, if◌then◌else◌}
+use Rattle.sets.specs.Plain.{keep, numbers}
 use Rattle.sets.specs.Sets.{has, size}
 use Rattle.tables.specs.declared.Conf.{Conf}
 use Rattle.tables.specs.Rows.{some?, every?}

@@ -1,5 +1,6 @@
 -- "Replica", "Gossip" and "Tidy": the entries of a replica after a message, and what it sends.
-use Rattle.sets.specs.Plain.{Bool, not, ◌&&◌, ℕ, eqb, List, [], ◌∷◌, map, if◌then◌else◌, one_of}
+use Rattle.std.specs.Prelude.{Bool, not, ◌&&◌, ℕ, eqb, List, [], ◌∷◌, map, if◌then◌else◌}
+use Rattle.sets.specs.Plain.{one_of}
 use Rattle.sets.specs.declared.Tag.{Tag}
 use Rattle.sets.specs.Tags.{first, lower}
 use Rattle.sets.specs.Sets.{only, all}

@@ -1,4 +1,5 @@
 -- A client's row in a phase that is not idle; the rows that the rules make of it are good, and so is what they send.
+use Rattle.std.specs.Prelude.{if◌then◌else◌}
 use mathlib.Core.Bool.{Bool, true, false, ◌||◌, false≢true}
 use mathlib.Core.Path.{◌≡◌, refl, sym, ap, subst, ◌∙◌}
 use Prim.Native.Nat.{ℕ, zero, suc, ◌+◌, ◌^◌, ◌≤◌, ◌<◌}
@@ -7,7 +8,6 @@ use borrow.Author.Tests.{le-leb, lt-ltb, ne_eqb, eqb-true}
 use lib.Arith.{lt-one}
 use lib.Dec.{eqb, eqb→eq}
 use lib.Pow.{pow_pos}
-use Rattle.sets.specs.Plain.{if◌then◌else◌}
 use Rattle.sets.specs.declared.Tag.{Tag}
 use Rattle.sets.specs.declared.Order.{Order}
 use Rattle.sets.specs.declared.Order.TheVariants.{Lower, Same, Greater}

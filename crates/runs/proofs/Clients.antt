@@ -1,11 +1,11 @@
 -- A client's row after a good reply is good, and so is what it sends.
+use Rattle.std.specs.Prelude.{if◌then◌else◌}
 use mathlib.Core.Bool.{true, false, not}
 use mathlib.Core.Path.{◌≡◌, refl, ap, subst, ◌∙◌}
 use Prim.Native.Nat.{ℕ, ◌+◌, ◌^◌, ◌≤◌, ◌<◌}
 use native.Mathlib.Decide.{ℕ_discrete}
 use native.Mathlib.Omega.{arith}
 use lib.Dec.{T, eqb, T_not}
-use Rattle.sets.specs.Plain.{if◌then◌else◌}
 use Rattle.sets.specs.declared.Tag.{Tag}
 use Rattle.sets.specs.Tags.{tag}
 use Rattle.tables.specs.declared.Conf.{Conf}

@@ -1,4 +1,5 @@
 -- The listed codes: which of them a list of tests gives, and what holds of each.
+use Rattle.std.specs.Prelude.{if◌then◌else◌}
 use mathlib.Core.Bool.{Bool, true, false, not, ◌||◌}
 use mathlib.Core.List.{List, [], ◌∷◌, map}
 use mathlib.Core.Logic.{⊎_elim}
@@ -6,7 +7,7 @@ use mathlib.Core.Path.{◌≡◌, refl, sym, subst}
 use Prim.Native.Nat.{ℕ, ◌≤◌}
 use borrow.Author.Tests.{eq-eqb}
 use lib.Dec.{T, leb, eqb, eqb→eq, nleb→lt}
-use Rattle.sets.specs.Plain.{if◌then◌else◌, one_of}
+use Rattle.sets.specs.Plain.{one_of}
 use Rattle.sets.proofs.Tests.{or_elim}
 use Rattle.tables.proofs.All.{All, none, cons}
 use Rattle.tables.proofs.Lists.{none_passes}

@@ -1,10 +1,10 @@
 -- A message that a step sends is good: what each field must be, and what a delivered message gives for it.
+use Rattle.std.specs.Prelude.{if◌then◌else◌}
 use mathlib.Core.Bool.{Bool, true, false, ◌&&◌, ◌||◌}
 use mathlib.Core.Path.{◌≡◌, refl, subst}
 use Prim.Native.Nat.{ℕ, ◌^◌, ◌≤◌, ◌<◌}
 use borrow.Author.Tests.{le-leb}
 use lib.Dec.{leb, eqb, eqb→eq}
-use Rattle.sets.specs.Plain.{if◌then◌else◌}
 use Rattle.sets.specs.declared.Tag.{Tag}
 use Rattle.sets.specs.Sets.{only, all}
 use Rattle.sets.proofs.Laws.{none_in, only_in, all_lt, in_range}

@@ -1,4 +1,5 @@
 -- The ways through a step and through a call on a buffer, each with what is then known.
+use Rattle.std.specs.Prelude.{if◌then◌else◌}
 use mathlib.Core.Bool.{Bool, true, false, not}
 use mathlib.Core.List.{List}
 use mathlib.Core.Path.{◌≡◌, refl}
@@ -6,7 +7,6 @@ use Prim.Native.Nat.{ℕ, ◌≤◌}
 use native.Mathlib.Omega.{arith}
 use lib.Dec.{T, eqb, ltb, eqb→eq, nltb→le, T_not}
 use lib.ListN.{length, drop}
-use Rattle.sets.specs.Plain.{if◌then◌else◌}
 use Rattle.sets.proofs.Tests.{T_false, neither, if_ind}
 use Rattle.tables.specs.declared.Layout.{Layout}
 use Rattle.tables.specs.Tables.{Machine, slot_at}

@@ -1,6 +1,6 @@
 -- The words of the theorems: what a refusal leaves, what a run of calls on a lent buffer is, and what must always hold in one.
-use Rattle.std.specs.Prelude.{◌≤◌}
-use Rattle.sets.specs.Plain.{not, ◌≡◌, ℕ, T, List, [], ◌∷◌, length, drop, if◌then◌else◌, one_of}
+use Rattle.std.specs.Prelude.{◌≤◌, not, ◌≡◌, ℕ, T, List, [], ◌∷◌, length, drop, if◌then◌else◌}
+use Rattle.sets.specs.Plain.{one_of}
 use Rattle.sets.specs.Tags.{lower}
 use Rattle.tables.specs.declared.Layout.{Layout}
 use Rattle.tables.specs.declared.Conf.{Conf}

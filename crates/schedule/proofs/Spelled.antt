@@ -1,4 +1,5 @@
 -- Bytes are read as numbers exactly where they are those numbers, each after one space.
+use Rattle.std.specs.Prelude.{if◌then◌else◌}
 use Prim.Native.Nat.{ℕ, zero, suc, ◌+◌, ◌*◌, ◌-◌, ◌/◌, ◌%◌, ◌^◌, ◌≤◌, ◌<◌}
 use mathlib.Core.Path.{◌≡◌, refl, sym, ap, ◌∙◌}
 use mathlib.Core.Bool.{Bool, true, false}
@@ -8,7 +9,6 @@ use native.Mathlib.Omega.{arith}
 use native.Mathlib.Nat.{pow-suc}
 use lib.Dec.{ltb, leb, eqb}
 use borrow.Author.Tests.{le-leb, ne_eqb, ltb-true, ltb-false, leb-true, eqb-true, eqb-false}
-use Rattle.sets.specs.Plain.{if◌then◌else◌}
 use Rattle.sets.proofs.Tests.{T_true, true-T, and_elim}
 use Rattle.schedule.specs.Text.{decimal_in, decimal, fields_text, Fields}
 use Rattle.schedule.specs.Lines.{Numbers, none, some, push, Place, after, start, inside, digit, numbers_of}

@@ -1,7 +1,6 @@
 -- "[..] at most 80 bytes before it. [..] Any other line [..] gets code 18." The command that a line is; a line is the bytes
 -- before its LF, and is read from its first byte to its last.
-use Rattle.std.specs.Prelude.{ℕ, ◌+◌, ◌*◌, ◌-◌, ◌≤◌, ◌≡◌, Bool, ◌&&◌, List, [], ◌∷◌, length, get_or, ltb, leb, eqb}
-use Rattle.sets.specs.Plain.{if◌then◌else◌}
+use Rattle.std.specs.Prelude.{ℕ, ◌+◌, ◌*◌, ◌-◌, ◌≤◌, ◌≡◌, Bool, ◌&&◌, List, [], ◌∷◌, length, get_or, ltb, leb, eqb, if◌then◌else◌}
 use Rattle.schedule.specs.declared.Command.{Command}
 use Rattle.schedule.specs.declared.Command.TheVariants.{SetUp, Columns, Read, Write, Deliver, Gossip, Tidy, Crash, Malformed}
 use Rattle.schedule.specs.Text.{text, fields_in, Fields}

@@ -2,8 +2,7 @@
 -- decimal, at most 4,294,967,295, one space apart, line end LF [..]. No leading zeros. [..] Each line prints line number, code,
 -- client, tag number, tag client, and the first page word if the code is 1, else 0." And of columns: "The program's set-up line is
 -- `C nc nd nr f columns top w`." And of the mark: "The rehearsal program prints it last on each line."
-use Rattle.std.specs.Prelude.{ℕ, zero, suc, ◌+◌, ◌/◌, ◌%◌, ◌≤◌, List, [], ◌∷◌, ◌++◌, ltb, eqb}
-use Rattle.sets.specs.Plain.{if◌then◌else◌}
+use Rattle.std.specs.Prelude.{ℕ, zero, suc, ◌+◌, ◌/◌, ◌%◌, ◌≤◌, List, [], ◌∷◌, ◌++◌, ltb, eqb, if◌then◌else◌}
 use Rattle.schedule.specs.declared.Command.{Command}
 use Rattle.schedule.specs.declared.Command.TheVariants.{SetUp, Columns, Read, Write, Deliver, Gossip, Tidy, Crash, Malformed}
 

@@ -1,4 +1,5 @@
 -- The members of a set in rising order: which they are, how many, and one by one as a loop meets them.
+use Rattle.std.specs.Prelude.{if◌then◌else◌}
 use mathlib.Core.Path.{◌≡◌, refl, sym, ap, ◌∙◌}
 use mathlib.Core.Bool.{Bool, true, false}
 use mathlib.Core.List.Memᴰ
@@ -15,7 +16,7 @@ use lib.Pow.{shr-shr}
 use lib.ListN.{length}
 use lib.Count.{ones_step}
 use lib.Dec.{T, eqb}
-use Rattle.sets.specs.Plain.{if◌then◌else◌, keep, numbers}
+use Rattle.sets.specs.Plain.{keep, numbers}
 use Rattle.sets.specs.Sets.{has, size, only, all, members}
 use Rattle.sets.specs.Inner.{◌∈◌}
 use Rattle.sets.proofs.Digits.{half_lt, pow_half, pow_even, ones_half, ones_odd}

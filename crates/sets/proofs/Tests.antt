@@ -1,9 +1,9 @@
 -- What a test gives, as `T b` and as `b ≡ true`, and what a choice by a test gives.
+use Rattle.std.specs.Prelude.{if◌then◌else◌}
 use mathlib.Core.Path.{◌≡◌, refl, sym, ◌∙◌}
 use mathlib.Core.Bool.{Bool, true, false, ◌&&◌, ◌||◌, not}
 use mathlib.Core.Logic.{◌⊎◌, inl, inr}
 use lib.Dec.{T}
-use Rattle.sets.specs.Plain.{if◌then◌else◌}
 
 pub T_true : (b : Bool) → T b → b ≡ true
 T_true true h = refl

@@ -1,12 +1,7 @@
--- Truth values, numbers, lists and "perhaps one" under one roof, the choice by a test, and plain functions of lists. Nothing of the paper stands here.
-pub use Rattle.std.specs.Prelude.{Bool, true, false, not, ◌&&◌, ◌||◌, ◌≡◌, ◌⊎◌, ℕ, zero, suc, ◌+◌, ◌-◌, ◌*◌, ◌/◌, ◌%◌, ◌^◌, ◌<◌, T, leb, ltb, eqb, length, get_or, set, replicate, take, drop}
-pub use mathlib.Core.List.{List, [], ◌∷◌, ◌++◌, map, Memᴰ as List-as-Memᴰ}
+-- "Perhaps one", membership, and plain functions of lists; truth values, numbers, lists and the choice by a test are the library's. Nothing of the paper stands here.
+use Rattle.std.specs.Prelude.{Bool, false, ◌||◌, ℕ, zero, suc, eqb, List, [], ◌∷◌, if◌then◌else◌}
+pub use mathlib.Core.List.{Memᴰ}
 pub use Rattle.std.proofs.Math.Option.{Option, none, some}
-
-infixr 10 if◌then◌else◌
-abbrev pub if◌then◌else◌ : {A : Type 0} → Bool → A → A → A
-if true then x else y = x
-if false then x else y = y
 
 -- the elements that pass the test
 abbrev pub keep : {A : Type 0} → (A → Bool) → List A → List A

@@ -1,5 +1,6 @@
 -- "A set of parties is a word in which party p is bit p − 1; its size is the number of ones."
-use Rattle.sets.specs.Plain.{Bool, false, ℕ, zero, suc, ◌-◌, ◌/◌, ◌%◌, ◌^◌, eqb, List, keep, numbers}
+use Rattle.std.specs.Prelude.{Bool, false, ℕ, zero, suc, ◌-◌, ◌/◌, ◌%◌, ◌^◌, eqb, List}
+use Rattle.sets.specs.Plain.{keep, numbers}
 use Rattle.std.specs.Int.Bits.{bit_or}
 use Rattle.std.specs.Int.Count.{ones}
 

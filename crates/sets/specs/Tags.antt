@@ -1,5 +1,5 @@
 -- "A tag is (number, client). Tags compare by number, then client. The first tag is (0,0)."
-use Rattle.sets.specs.Plain.{Bool, true, false, ◌&&◌, ℕ, ltb, eqb, if◌then◌else◌}
+use Rattle.std.specs.Prelude.{Bool, true, false, ◌&&◌, ℕ, ltb, eqb, if◌then◌else◌}
 use Rattle.sets.specs.declared.Tag.{Tag}
 use Rattle.sets.specs.declared.Order.{Order}
 use Rattle.sets.specs.declared.Order.TheVariants.{Lower, Same, Greater}

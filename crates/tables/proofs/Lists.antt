@@ -1,4 +1,5 @@
 -- Lists of rows: the first row that passes a test, another row put in its place, a function of each row, and rows related one by one.
+use Rattle.std.specs.Prelude.{if◌then◌else◌}
 use mathlib.Core.Path.{◌≡◌, refl, sym, ap, ◌∙◌}
 use mathlib.Core.Bool.{Bool, true, false, not}
 use mathlib.Core.List.Memᴰ
@@ -10,7 +11,6 @@ use native.Mathlib.Omega.{arith}
 use borrow.Author.Tests.{lt-ltb}
 use lib.Dec.{T, ltb, leb-suc-suc, T_not}
 use lib.ListN.{length, get_or, set}
-use Rattle.sets.specs.Plain.{if◌then◌else◌}
 use Rattle.sets.proofs.Tests.{true-T, false-T, if_ind}
 use Rattle.tables.specs.Rows.{some?, every?, put_first}
 use Rattle.tables.specs.Inner.{before}

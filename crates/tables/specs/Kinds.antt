@@ -1,5 +1,6 @@
 -- "Kinds" and "Carried fields": who sends and who receives a message of each kind, and what it carries.
-use Rattle.sets.specs.Plain.{Bool, not, ℕ, ltb, eqb, [], ◌∷◌, if◌then◌else◌, one_of}
+use Rattle.std.specs.Prelude.{Bool, not, ℕ, ltb, eqb, [], ◌∷◌, if◌then◌else◌}
+use Rattle.sets.specs.Plain.{one_of}
 use Rattle.tables.specs.declared.Conf.{Conf}
 use Rattle.tables.specs.declared.Party.{Party}
 use Rattle.tables.specs.declared.Party.TheVariants.{Nobody, AClient, ADirectory, AReplica}

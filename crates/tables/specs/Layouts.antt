@@ -1,5 +1,5 @@
 -- Where each table begins, by the directory rows that a machine has room for: 208, 228, 235, 240 and 1,920 with 5 of them, and all after the directories 44 words later with 16.
-use Rattle.sets.specs.Plain.{Bool, ℕ, ◌+◌, ◌*◌, eqb}
+use Rattle.std.specs.Prelude.{Bool, ℕ, ◌+◌, ◌*◌, eqb}
 use Rattle.tables.specs.declared.Layout.{Layout}
 
 -- "5 directory rows of 4": 4,992 words in all

@@ -1,5 +1,5 @@
 -- The machine of words, row by row. Of a buffer that is long enough for the layout it is the one machine that has these words: theorems `words_back` and `machine_back` (proofs/Round).
-use Rattle.sets.specs.Plain.{ℕ, zero, suc, List, [], ◌∷◌, get_or, take, drop}
+use Rattle.std.specs.Prelude.{ℕ, zero, suc, List, [], ◌∷◌, get_or, take, drop}
 use Rattle.sets.specs.Tags.{tag}
 use Rattle.tables.specs.declared.Layout.{Layout}
 use Rattle.tables.specs.declared.Conf.{Conf}

@@ -1,5 +1,6 @@
 -- "Phases: 0 idle, 1 rdr, 2 rdw, 3 rrr, 4 wdr, 5 wrw, 6 wdw": the fields of a client's row that each uses.
-use Rattle.sets.specs.Plain.{Bool, not, ℕ, eqb, [], ◌∷◌, if◌then◌else◌, one_of}
+use Rattle.std.specs.Prelude.{Bool, not, ℕ, eqb, [], ◌∷◌, if◌then◌else◌}
+use Rattle.sets.specs.Plain.{one_of}
 
 abbrev pub is_idle : ℕ → Bool
 is_idle p = eqb p 0

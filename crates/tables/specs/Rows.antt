@@ -1,5 +1,5 @@
 -- Words of rows, and lists of rows that count from 1. Nothing of the paper stands here.
-use Rattle.sets.specs.Plain.{Bool, true, false, ℕ, zero, suc, List, [], ◌∷◌, ◌++◌, get_or, set, if◌then◌else◌}
+use Rattle.std.specs.Prelude.{Bool, true, false, ℕ, zero, suc, List, [], ◌∷◌, ◌++◌, get_or, set, if◌then◌else◌}
 
 -- the words of each record, one row after the other
 unfoldable pub rows_words : {A : Type 0} → (A → List ℕ) → List A → List ℕ

@@ -1,5 +1,5 @@
 -- "The tables": the machine as records. Each row has the fields that the paper lists, in its order; a spare word is a field too.
-use Rattle.sets.specs.Plain.{Bool, not, ◌&&◌, ℕ, eqb, List, replicate}
+use Rattle.std.specs.Prelude.{Bool, not, ◌&&◌, ℕ, eqb, List, replicate}
 use Rattle.sets.specs.Tags.{first, same}
 use Rattle.sets.specs.declared.Tag.{Tag}
 use Rattle.tables.specs.declared.Conf.{Conf}

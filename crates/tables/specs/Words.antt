@@ -1,5 +1,5 @@
 -- "A machine is the first 4,992 words of a lent buffer": its words, row by row, each field in the paper's order.
-use Rattle.sets.specs.Plain.{ℕ, List, [], ◌∷◌}
+use Rattle.std.specs.Prelude.{ℕ, List, [], ◌∷◌}
 use Rattle.tables.specs.declared.Conf.{Conf}
 use Rattle.tables.specs.declared.Client.{Client}
 use Rattle.tables.specs.declared.Directory.{Directory}

@@ -1,6 +1,6 @@
 -- The turns so far, and how much of the chunk is left: a turn takes some bytes, or is the last.
+use Rattle.std.specs.Prelude.{if◌then◌else◌}
 use Rattle.std.proofs.Common.{◌≡◌, ◌+◌, ◌-◌, length}
-use Rattle.sets.specs.Plain.{if◌then◌else◌}
 use Rattle.rehearse.specs.Rehearsal.{machines}
 use Rattle.rehearse.proofs.Turns.{Consuming}
 use Rattle.rehearse.proofs.consume.Given as goal

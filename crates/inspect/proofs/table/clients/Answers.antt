@@ -1,3 +1,4 @@
+use Rattle.std.specs.Prelude.{if◌then◌else◌}
 use mathlib.Core.Bool.{Bool, true, false, not}
 use mathlib.Core.List.{List}
 use mathlib.Core.Path.{◌≡◌}
@@ -6,7 +7,6 @@ use borrow.Author.Rules.{rules}
 use borrow.Author.Tests.{not-true, not-false}
 use lib.Dec.{ltb}
 use lib.ListN.{take, drop}
-use Rattle.sets.specs.Plain.{if◌then◌else◌}
 use Rattle.tables.specs.declared.Conf.{Conf}
 use Rattle.tables.specs.Tables.{no_client}
 use Rattle.tables.specs.Words.{client_words}

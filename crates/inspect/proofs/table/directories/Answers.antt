@@ -1,9 +1,9 @@
+use Rattle.std.specs.Prelude.{if◌then◌else◌}
 use mathlib.Core.Bool.{Bool, ◌&&◌}
 use mathlib.Core.List.{List}
 use mathlib.Core.Path.{◌≡◌}
 use lib.Dec.{ltb}
 use lib.ListN.{take, drop}
-use Rattle.sets.specs.Plain.{if◌then◌else◌}
 use Rattle.tables.specs.declared.Conf.{Conf}
 use Rattle.tables.specs.Words.{directory_words}
 use Prim.Native.Nat.{ℕ, ◌+◌, ◌*◌, ◌-◌, ◌<◌}

@@ -1,10 +1,11 @@
+use Rattle.std.specs.Prelude.{if◌then◌else◌}
 use mathlib.Core.Bool.{Bool, true, false, beq}
 use mathlib.Core.Path.{◌≡◌, refl, sym, ◌∙◌}
 use Prim.Native.Nat.{ℕ, suc, ◌+◌, ◌-◌, ◌%◌, ◌≤◌, ◌<◌}
 use native.Mathlib.Nat.{mod-lt}
 use native.Mathlib.Numerals.{add-one}
 use native.Mathlib.Omega.{arith}
-use Rattle.sets.specs.Plain.{if◌then◌else◌, numbers}
+use Rattle.sets.specs.Plain.{numbers}
 use Rattle.sets.specs.Sets.{has, with}
 use Rattle.rules.specs.Inner.{stands, met}
 use Rattle.rules.proofs.quorums.columns_of.Goals.{then-is_in-inside, else-is_in-inside}

@@ -1,6 +1,6 @@
+use Rattle.std.specs.Prelude.{if◌then◌else◌}
 use mathlib.Core.Path.{◌≡◌}
 use borrow.Author.Tests.{eq-eqb, ne_eqb}
-use Rattle.sets.specs.Plain.{if◌then◌else◌}
 use Rattle.sets.specs.declared.Tag.{Tag}
 use Rattle.sets.specs.declared.Order.{Order}
 use Rattle.sets.specs.Tags.{against, is_lower}
