@@ -2,12 +2,12 @@
 
 use std::ops::Range;
 
-/// The lines of `pub struct NAME`, `pub enum NAME` or `pub const NAME`, with the comment above.
+/// The lines of `pub struct NAME`, `pub enum NAME` or `pub const NAME`, with the comment and the attributes above.
 pub fn declared(lines: &[&str], name: &str) -> Option<Range<usize>> {
     let at = lines.iter().position(|line| declares(line, name))?;
     let end = (at..lines.len()).find(|&end| closes(lines[end], end > at))?;
-    let comments = lines[..at].iter().rev().take_while(|line| line.starts_with("//")).count();
-    Some(at - comments..end + 1)
+    let above = lines[..at].iter().rev().take_while(|line| line.starts_with("//") || line.starts_with("#[")).count();
+    Some(at - above..end + 1)
 }
 
 fn declares(line: &str, name: &str) -> bool {

@@ -25,6 +25,12 @@ fn take(found: &mut Found, section: &Section, file: &str, text: &str) {
     let total = places.iter().map(|place| place.len()).sum();
     found.counts.push(Count { file: file.to_string(), things: places.len(), lines: total, kept: 0 });
     let ghost: Vec<&str> = text.lines().filter(|line| line.starts_with("ghost use ")).collect();
-    let said = words(places.into_iter().flat_map(|place| &lines[place]).copied());
+    let said = words(places.into_iter().flat_map(|place| &lines[place]).map(|line| unnamed(line)));
     found.check_words(section, &said, &uses(&ghost.join("\n")), &format!("a contract of `{file}`"));
+}
+
+/// A line without the name that it gives its clause.
+fn unnamed(line: &str) -> &str {
+    let clause = ["requires ", "ensures "].iter().find_map(|begin| line.trim_start().strip_prefix(begin));
+    clause.and_then(|clause| clause.find('{').map(|at| &clause[at..])).unwrap_or(line)
 }

@@ -2,8 +2,11 @@
 
 use std::collections::BTreeSet;
 
-/// The prover's own libraries.
+/// The prover's own libraries; `Rattle.std` is one too.
 const LIBRARIES: [&str; 5] = ["mathlib", "Prim", "native", "borrow", "lib"];
+
+/// Where an operator has its operands.
+const HOLE: char = '◌';
 
 /// A struct, enum or constant of a crate's code.
 #[derive(Clone, PartialEq, Eq, PartialOrd, Ord)]
@@ -42,24 +45,31 @@ fn body(line: &str) -> Option<&str> {
     found.map(|rest| rest.trim_end().trim_end_matches(';'))
 }
 
-/// `PATH.{name, name}`, `PATH as name`, or `PATH`, which brings its last part.
+/// `PATH.{name, name as other}`, `PATH as name`, or `PATH`, which brings its last part.
 fn read(body: &str) -> Use {
     if let Some((path, names)) = body.split_once(".{") {
-        let names = names.trim_end_matches('}').split(',').map(|name| name.trim().to_string());
+        let names = names.trim_end_matches('}').split(',').map(|name| renamed(name).1.trim().to_string());
         return Use { origin: origin(path), names: names.filter(|name| !name.is_empty()).collect() };
     }
-    let (path, name) = body.split_once(" as ").unwrap_or((body, body.rsplit('.').next().unwrap_or(body)));
-    Use { origin: origin(path), names: vec![name.to_string()] }
+    let (path, name) = renamed(body);
+    Use { origin: origin(path), names: vec![name.rsplit('.').next().unwrap_or(name).to_string()] }
+}
+
+/// What is named, and what it is called from there on.
+fn renamed(name: &str) -> (&str, &str) {
+    name.split_once(" as ").unwrap_or((name, name))
 }
 
 fn origin(path: &str) -> Origin {
     let parts: Vec<&str> = path.split('.').collect();
-    let krate = parts[0].strip_prefix("Rattle·").map(|rest| rest.split('·').next().unwrap_or(rest).to_string());
-    match (krate, &parts[1..]) {
-        (None, _) if LIBRARIES.contains(&parts[0]) => Origin::Library,
-        (Some(krate), ["specs", "declared", rest @ ..]) => Origin::Declared(Declared { krate, name: declared(rest) }),
-        (Some(krate), ["specs", file]) => Origin::Definitions(format!("{krate}/specs/{file}")),
-        (Some(krate), rest) => Origin::Other(format!("{krate}/{}", rest.join("/"))),
+    match parts[..] {
+        ["Rattle", "std", ..] => Origin::Library,
+        ["Rattle", krate, "specs", "declared", ref rest @ ..] => {
+            Origin::Declared(Declared { krate: krate.to_string(), name: declared(rest) })
+        }
+        ["Rattle", krate, "specs", file] => Origin::Definitions(format!("{krate}/specs/{file}")),
+        ["Rattle", ref rest @ ..] => Origin::Other(rest.join("/")),
+        [library, ..] if LIBRARIES.contains(&library) => Origin::Library,
         _ => Origin::Other(path.to_string()),
     }
 }
@@ -76,11 +86,11 @@ pub fn words<'a>(lines: impl IntoIterator<Item = &'a str>) -> BTreeSet<String> {
 }
 
 fn between(letter: char) -> bool {
-    letter.is_whitespace() || "(){};,.λ⌜⌝".contains(letter)
+    letter.is_whitespace() || "(){};,.λ".contains(letter)
 }
 
-/// A name such as `_≡_` or `if_then_else_` appears when all its parts do.
+/// An operator such as `◌≡◌` or `if◌then◌else◌` appears when all its parts do.
 pub fn appears(name: &str, words: &BTreeSet<String>) -> bool {
-    let mut parts = name.split('_').filter(|part| !part.is_empty()).peekable();
+    let mut parts = name.split(HOLE).filter(|part| !part.is_empty()).peekable();
     parts.peek().is_some() && parts.all(|part| words.contains(part))
 }

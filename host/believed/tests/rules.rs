@@ -86,7 +86,7 @@ fn files_that_are_not_there() {
 #[test]
 fn a_statement_that_is_not_there() {
     let said = ["`high/proofs/Final` is listed with `all`, and states no such thing"];
-    assert_eq!(after(PROMISES, "twice, same, all-even", "twice, same, all"), said);
+    assert_eq!(after(PROMISES, "twice, same, all_even", "twice, same, all"), said);
 }
 
 #[test]
@@ -99,7 +99,7 @@ fn a_token_that_names_nothing() {
     let said = ["`high/src/lib.rt` is listed in the row `numbers`, where it names nothing"];
     assert_eq!(after(PROMISES, "`Pairs`", "`Pairs`, `high/src/lib.rt`"), said);
     let said = ["`high/proofs/Final` is listed in the row `the theorems`, where it names nothing"];
-    assert_eq!(after(PROMISES, ": twice, same, all-even", ""), said);
+    assert_eq!(after(PROMISES, ": twice, same, all_even", ""), said);
 }
 
 // 2: no file looks ahead.
@@ -121,8 +121,8 @@ fn a_file_that_is_left_out() {
 #[test]
 fn a_definition_by_proofs() {
     let said = ["`low/specs/Pairs` uses `low/proofs/Laws`, which holds no definitions"];
-    let line = "use Rattle·low·proofs.proofs.Laws.{law}\nuse Rattle·low·specs.specs.Numbers";
-    assert_eq!(after("crates/low/specs/Pairs.antt", "use Rattle·low·specs.specs.Numbers", line), said);
+    let line = "use Rattle.low.proofs.Laws.{law}\nuse Rattle.low.specs.Numbers";
+    assert_eq!(after("crates/low/specs/Pairs.antt", "use Rattle.low.specs.Numbers", line), said);
 }
 
 #[test]
@@ -135,13 +135,13 @@ fn a_struct_that_no_listed_file_has() {
 
 #[test]
 fn a_word_of_proofs_in_a_statement() {
-    let said = ["`all-even` of `high/proofs/Final` uses `Even` of `high/proofs/Laws`, which holds no definitions"];
+    let said = ["`all_even` of `high/proofs/Final` uses `Even` of `high/proofs/Laws`, which holds no definitions"];
     assert_eq!(after(FINAL, "      ≡ n\n", "      ≡ n → Even n\n"), said);
 }
 
 #[test]
 fn a_word_of_proofs_in_a_header() {
-    let said = ["twice", "same", "all-even"].map(|name| {
+    let said = ["twice", "same", "all_even"].map(|name| {
         format!("`{name}` of `high/proofs/Final` uses `Even` of `high/proofs/Laws`, which holds no definitions")
     });
     assert_eq!(after(FINAL, "(m : ℕ) where", "(m : Even n) where"), said);
@@ -149,16 +149,56 @@ fn a_word_of_proofs_in_a_header() {
 
 #[test]
 fn a_name_of_parts_appears_when_all_do() {
-    let said = ["`all-even` of `high/proofs/Final` uses `half_of_` of `high/proofs/Laws`, which holds no definitions"];
+    let said = ["`all_even` of `high/proofs/Final` uses `half◌of◌` of `high/proofs/Laws`, which holds no definitions"];
     assert_eq!(after(FINAL, "      ≡ n\n", "      ≡ (half n of m)\n"), said);
     assert!(after(FINAL, "      ≡ n\n", "      ≡ (half n)\n").is_empty());
 }
 
 #[test]
-fn a_word_of_an_unlisted_definition() {
-    let said = ["`all-even` of `high/proofs/Final` uses `odd` of `high/specs/Inner`, which is not listed"];
+fn a_name_with_underscores_is_one_word() {
+    let said = ["`all_even` of `high/proofs/Final` uses `half_of` of `high/proofs/Laws`, which holds no definitions"];
     let repository = Repository::closed();
-    repository.edit(FINAL, "{law, Even, half_of_}", "{law}\nuse Rattle·high·specs.specs.Inner.{odd}");
+    repository.edit(FINAL, "half◌of◌", "half_of");
+    repository.edit(FINAL, "      ≡ n\n", "      ≡ (half of n)\n");
+    assert!(repository.other_faults().is_empty());
+    repository.edit(FINAL, "half of n", "half_of n");
+    assert_eq!(repository.other_faults(), said);
+}
+
+#[test]
+fn a_word_under_another_name() {
+    let said = ["`all_even` of `high/proofs/Final` uses `E` of `high/proofs/Laws`, which holds no definitions"];
+    for line in ["{law, Even as E}", "{law}\nuse Rattle.high.proofs.Laws.Even as E"] {
+        let repository = Repository::closed();
+        repository.edit(FINAL, "{law, Even, half◌of◌}", line);
+        repository.edit(FINAL, "      ≡ n\n", "      ≡ n → E n\n");
+        let said =
+            said.map(|one| if line.contains('\n') { one.replace("/Laws`", "/Laws/Even`") } else { one.to_string() });
+        assert_eq!(repository.other_faults(), said);
+    }
+}
+
+/// The prover's own library needs no listing; one of another name does.
+#[test]
+fn a_library_that_is_not_the_provers() {
+    let line =
+        "use Rattle.LIBRARY.proofs.Math.{half}\nuse Rattle.LIBRARY.specs.Halves.{whole}\nuse Rattle.low.specs.Numbers";
+    let after = |library| {
+        after("crates/low/specs/Pairs.antt", "use Rattle.low.specs.Numbers", &line.replace("LIBRARY", library))
+    };
+    assert!(after("std").is_empty());
+    let said = [
+        "`low/specs/Pairs` uses `standard/proofs/Math`, which holds no definitions",
+        "`low/specs/Pairs` uses `standard/specs/Halves`, which is not listed",
+    ];
+    assert_eq!(after("standard"), said);
+}
+
+#[test]
+fn a_word_of_an_unlisted_definition() {
+    let said = ["`all_even` of `high/proofs/Final` uses `odd` of `high/specs/Inner`, which is not listed"];
+    let repository = Repository::closed();
+    repository.edit(FINAL, "{law, Even, half◌of◌}", "{law}\nuse Rattle.high.specs.Inner.{odd}");
     repository.edit(FINAL, "      ≡ n\n", "      ≡ odd n\n");
     assert_eq!(repository.other_faults(), said);
 }
@@ -166,17 +206,17 @@ fn a_word_of_an_unlisted_definition() {
 #[test]
 fn a_declared_word_of_a_statement() {
     let said = [
-        "`all-even` of `high/proofs/Final` uses `Unseen`, declared in `low`, which stands in no listed file of structs",
+        "`all_even` of `high/proofs/Final` uses `Unseen`, declared in `low`, which stands in no listed file of structs",
     ];
     let repository = Repository::closed();
-    repository.edit(FINAL, "{law, Even, half_of_}", "{law}\nuse Rattle·low.specs.declared.Unseen.{Unseen}");
+    repository.edit(FINAL, "{law, Even, half◌of◌}", "{law}\nuse Rattle.low.specs.declared.Unseen.{Unseen}");
     repository.edit(FINAL, "      ≡ n\n", "      ≡ Unseen n\n");
     assert_eq!(repository.other_faults(), said);
 }
 
 #[test]
 fn a_word_that_the_same_file_gives() {
-    let said = ["same", "all-even"]
+    let said = ["same", "all_even"]
         .map(|name| format!("`{name}` of `high/proofs/Final` uses `twice` of the same file, which is not listed"));
     assert_eq!(after(PROMISES, "twice, same", "same"), said);
 }
@@ -187,7 +227,27 @@ fn a_word_of_an_unlisted_definition_in_a_contract() {
     assert_eq!(after("crates/high/src/lib.rt", "twice n ≡ n", "twice n ≡ unsaid n"), said);
 }
 
+/// The name of a clause is no word of it.
+#[test]
+fn a_clause_with_a_name() {
+    let path = "crates/high/src/lib.rt";
+    assert!(after(path, "ensures { result ≡ double", "ensures unsaid { result ≡ double").is_empty());
+    let said = ["a contract of `high/src/lib.rt` uses `unsaid` of `high/specs/Inner`, which is not listed"];
+    assert_eq!(after(path, "requires { double n twice n ≡ n }", "requires fits { unsaid n ≡ n }"), said);
+}
+
 // 4: the text says the sums.
+
+/// A reader reads what stands right above a struct too.
+#[test]
+fn the_lines_above_a_struct() {
+    for (above, lines) in [("#[derive(Clone, Copy)]\n", 9), ("// And more.\n#[derive(Clone, Copy)]\n", 10), ("\n", 6)] {
+        let repository = Repository::closed();
+        repository.edit("crates/low/src/lib.rt", "pub struct Pair {", &format!("{above}pub struct Pair {{"));
+        let expected = format!("the section does not say: structs and enums: 2 in 1 file, {lines} lines");
+        assert_eq!(repository.faults(), [expected]);
+    }
+}
 
 #[test]
 fn a_sum_that_is_not_said() {

@@ -19,7 +19,7 @@ pub const PROMISES: &str = "\
 | numbers | `low/specs/Numbers`, `Pairs` |
 | doubles, with one `word` of prose | `high/specs/Doubles` |
 | the contracts of the calls | `high/src/lib.rt` |
-| the theorems | `high/proofs/Final: twice, same, all-even` |
+| the theorems | `high/proofs/Final: twice, same, all_even` |
 
     definitions: 3 files, 1,019 lines, 7 of them neither blank nor `use`
     structs and enums: 2 in 1 file, 8 lines
@@ -44,25 +44,25 @@ theorems: 3 statements in 1 file, 9 lines
 
 const NUMBERS: &str = "\
 -- Numbers under one roof.
-pub use Prim.Native.Nat.{ℕ, _+_}
+pub use Rattle.std.specs.Prelude.{ℕ, ◌+◌}
 ";
 
 const PAIRS: &str = "\
 -- A pair's sum.
-use Rattle·low·specs.specs.Numbers.{ℕ, _+_}
-use Rattle·low·specs.specs.declared.Pair.{Pair}
-use Rattle·low·specs.specs.declared.Side.the-variants.{Left}
+use Rattle.low.specs.Numbers.{ℕ, ◌+◌}
+use Rattle.low.specs.declared.Pair.{Pair}
+use Rattle.low.specs.declared.Side.TheVariants.{Left}
 
 abbrev pub sum : Pair → ℕ
-sum p = p .left + p .right
+sum p = p.left + p.right
 ";
 
 const DOUBLES: &str = "\
 -- Doubles.
-use Rattle·low.specs.Numbers.{ℕ, _+_}
-use Rattle·low.specs.Pairs.{sum}
+use Rattle.low.specs.Numbers.{ℕ, ◌+◌}
+use Rattle.low.specs.Pairs.{sum}
 
-abbrev pub double_twice_ : ℕ → ℕ → ℕ
+abbrev pub double◌twice◌ : ℕ → ℕ → ℕ
 double a twice b = a + a + b
 ";
 
@@ -85,14 +85,14 @@ pub enum Side {
 ";
 
 const HIGH: &str = "\
-ghost use mathlib.Core.Path.{_≡_};
-ghost use Rattle·high·specs.specs.Doubles.{double_twice_};
-ghost use Rattle·high·specs.specs.Inner.{unsaid};
+ghost use Rattle.std.specs.Prelude.{◌≡◌};
+ghost use Rattle.high.specs.Doubles.{double◌twice◌};
+ghost use Rattle.high.specs.Inner.{unsaid};
 
 // Not counted.
 pub fn call(n: u32) -> u32
-    requires { ⌜ double n twice n ≡ n ⌝ }
-    ensures { λ r. ⌜ r ≡ double n twice n ⌝ }
+    requires { double n twice n ≡ n }
+    ensures { result ≡ double n twice n }
 {
     let unsaid = inner(n);
     unsaid
@@ -103,7 +103,7 @@ pub fn plain(n: u32) -> u32 {
 }
 
 fn inner(n: u32) -> u32
-    ensures { λ r. ⌜ r ≡ unsaid n ⌝ }
+    ensures { result ≡ unsaid n }
 {
     n
 }
@@ -111,10 +111,10 @@ fn inner(n: u32) -> u32
 
 const FINAL: &str = "\
 -- The end.
-use mathlib.Core.Path.{_≡_, refl}
-use Rattle·low.specs.Numbers.{ℕ}
-use Rattle·high·specs.specs.Doubles.{double_twice_}
-use Rattle·high·proofs.proofs.Laws.{law, Even, half_of_}
+use mathlib.Core.Path.{◌≡◌, refl}
+use Rattle.low.specs.Numbers.{ℕ}
+use Rattle.high.specs.Doubles.{double◌twice◌}
+use Rattle.high.proofs.Laws.{law, Even, half◌of◌}
 
 lemma : (n : ℕ) → Even n
 lemma = law
@@ -133,9 +133,9 @@ module _ (n : ℕ)
       all = law
 
   -- law and Even are no words of it
-  pub all-even : twice
+  pub all_even : twice
       ≡ n
-  all-even = law
+  all_even = law
 ";
 
 pub struct Repository {
