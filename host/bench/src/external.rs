@@ -6,9 +6,9 @@ use std::os::unix::process::ExitStatusExt;
 use std::path::{Path, PathBuf};
 use std::process::{Command, Stdio};
 
-/// The program: REHEARSE, or `../target/bin/rehearse` seen from the workspace.
+/// The program: REHEARSE, or `../crates/rehearse/out/rehearse` seen from the workspace, where a build leaves it.
 pub fn program() -> Result<PathBuf, String> {
-    let named = std::env::var_os("REHEARSE").unwrap_or_else(|| "../target/bin/rehearse".into());
+    let named = std::env::var_os("REHEARSE").unwrap_or_else(|| "../crates/rehearse/out/rehearse".into());
     let workspace = Path::new(env!("CARGO_MANIFEST_DIR")).join("..");
     // Tests run in the directory of their crate, so a short path counts from the workspace too.
     let places = [PathBuf::from(&named), workspace.join(&named)];
@@ -36,8 +36,8 @@ fn answers(program: &Path, input: &[u8]) -> io::Result<Vec<u8>> {
     read.map(|_| output)
 }
 
-/// Runs the program on a file, its answers going where ours go. Its language has no status for a
-/// program to end with, so what it says on standard error is its failure.
+/// Runs the program on a file, its answers going where ours go. What it says on standard error is
+/// its failure, whatever its status.
 pub fn pass(program: &Path, schedule: File) -> Result<(), String> {
     const READER_GONE: i32 = 13; // SIGPIPE
     let run = Command::new(program).stdin(schedule).stdout(Stdio::inherit()).stderr(Stdio::piped()).output();

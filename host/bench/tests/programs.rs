@@ -6,10 +6,9 @@ mod process;
 use bench::external;
 use process::Program;
 
-/// Its language has no exit status: what is told is told on standard error alone.
 fn rehearse() -> Program {
     let path = external::program().unwrap_or_else(|why| panic!("{why}"));
-    Program { name: "rehearse", path, failed: 0, misused: 0 }
+    Program { name: "rehearse", path, failed: 1, misused: 2 }
 }
 
 #[test]
