@@ -8,7 +8,7 @@ use process::Program;
 
 fn rehearse() -> Program {
     let path = external::program().unwrap_or_else(|why| panic!("{why}"));
-    Program { name: "rehearse", path, failed: 1, misused: 2 }
+    Program { name: "rehearse", path, failed: 1, misused: 0 }
 }
 
 #[test]
