@@ -27,9 +27,21 @@ struct Scratch(PathBuf);
 
 impl Scratch {
     fn new(name: &str, bytes: &[u8]) -> Scratch {
-        let path = std::env::temp_dir().join(format!("bench-{}-{name}", std::process::id()));
+        let path = Scratch::place(name);
         fs::write(&path, bytes).expect("a file");
         Scratch(path)
+    }
+
+    /// A program to be run at once: a process of its own copies it, since one that another test
+    /// starts while this one writes would hold it open, and it would be busy.
+    fn program(name: &str, from: &str) -> Scratch {
+        let path = Scratch::place(name);
+        assert!(Command::new("cp").arg(from).arg(&path).status().expect("cp starts").success());
+        Scratch(path)
+    }
+
+    fn place(name: &str) -> PathBuf {
+        std::env::temp_dir().join(format!("bench-{}-{name}", std::process::id()))
     }
 
     fn path(&self) -> &str {
@@ -164,7 +176,7 @@ fn files_that_cannot_be_read() {
 fn a_file_without_permission() {
     let locked = Scratch::new("locked", b"S 1 1 1 0 1 1 6 7\n");
     fs::set_permissions(locked.path(), Permissions::from_mode(0o000)).expect("permissions");
-    let program = Scratch::new("for-all", &fs::read(BENCH).expect("a program"));
+    let program = Scratch::program("for-all", BENCH);
     fs::set_permissions(program.path(), Permissions::from_mode(0o755)).expect("permissions");
     let mut command = Command::new(program.path());
     if fs::metadata(locked.path()).expect("a file").uid() == 0 {

@@ -6,6 +6,7 @@ mod process;
 use bench::external;
 use process::Program;
 
+/// Of an argument standard error alone tells.
 fn rehearse() -> Program {
     let path = external::program().unwrap_or_else(|why| panic!("{why}"));
     Program { name: "rehearse", path, failed: 1, misused: 0 }
