@@ -5,7 +5,7 @@ use crate::count::Count;
 use crate::found::Found;
 use crate::section::Section;
 use crate::tree::Tree;
-use crate::uses::{uses, words};
+use crate::uses::{ghost_uses, words};
 
 /// The words of a contract, like those of a theorem, come from what is listed.
 pub fn find(tree: &Tree, section: &Section) -> Found {
@@ -24,9 +24,8 @@ fn take(found: &mut Found, section: &Section, file: &str, text: &str) {
     let places = code::contracts(&lines);
     let total = places.iter().map(|place| place.len()).sum();
     found.counts.push(Count { file: file.to_string(), things: places.len(), lines: total, kept: 0 });
-    let ghost: Vec<&str> = text.lines().filter(|line| line.starts_with("ghost use ")).collect();
     let said = words(places.into_iter().flat_map(|place| &lines[place]).map(|line| unnamed(line)));
-    found.check_words(section, &said, &uses(&ghost.join("\n")), &format!("a contract of `{file}`"));
+    found.check_words(section, &said, &ghost_uses(text), &format!("a contract of `{file}`"));
 }
 
 /// A line without the name that it gives its clause.

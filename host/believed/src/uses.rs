@@ -30,9 +30,14 @@ pub struct Use {
     pub names: Vec<String>,
 }
 
-/// The `use` lines of a text, of proofs or of code.
+/// The `use` lines of a file of proofs or definitions.
 pub fn uses(text: &str) -> Vec<Use> {
-    text.lines().filter_map(body).map(read).collect()
+    found(text, &["use ", "pub use "])
+}
+
+/// The lines by which code brings words of its contracts.
+pub fn ghost_uses(text: &str) -> Vec<Use> {
+    found(text, &["ghost use "])
 }
 
 /// A line of definitions that brings names and says nothing.
@@ -40,9 +45,18 @@ pub fn is_use(line: &str) -> bool {
     line.starts_with("use ") || line.starts_with("pub use ")
 }
 
-fn body(line: &str) -> Option<&str> {
-    let found = ["use ", "pub use ", "ghost use "].iter().find_map(|begin| line.strip_prefix(begin));
-    found.map(|rest| rest.trim_end().trim_end_matches(';'))
+fn found(text: &str, begins: &[&str]) -> Vec<Use> {
+    let lines: Vec<&str> = text.lines().collect();
+    (0..lines.len()).filter_map(|at| body(&lines[at..], begins)).map(|body| read(&body)).collect()
+}
+
+/// What stands behind the first line's `use`, to the brace that closes its names, be it lines below.
+fn body(lines: &[&str], begins: &[&str]) -> Option<String> {
+    let first = begins.iter().find_map(|begin| lines[0].strip_prefix(begin))?;
+    let ends = |line: &&str| line.contains('}');
+    let below = if first.contains('{') { lines.iter().position(ends).unwrap_or(lines.len() - 1) } else { 0 };
+    let text: String = std::iter::once(first).chain(lines[1..=below].iter().map(|line| line.trim())).collect();
+    Some(text.trim_end().trim_end_matches(';').to_string())
 }
 
 /// `PATH.{name, name as other}`, `PATH as name`, or `PATH`, which brings its last part.

@@ -178,6 +178,20 @@ fn a_word_under_another_name() {
     }
 }
 
+#[test]
+fn names_on_lines_of_their_own() {
+    let said = ["`all_even` of `high/proofs/Final` uses `Even` of `high/proofs/Laws`, which holds no definitions"];
+    let repository = Repository::closed();
+    repository.edit(FINAL, "{law, Even, half◌of◌}", "{\n  law,\n  Even,\n}");
+    repository.edit(FINAL, "      ≡ n\n", "      ≡ n → Even n\n");
+    assert_eq!(repository.other_faults(), said);
+    let said = ["a contract of `high/src/lib.rt` uses `unsaid` of `high/specs/Inner`, which is not listed"];
+    let repository = Repository::closed();
+    repository.edit("crates/high/src/lib.rt", "{unsaid}", "{\n    said,\n    unsaid,\n}");
+    repository.edit("crates/high/src/lib.rt", "twice n ≡ n", "twice n ≡ unsaid n");
+    assert_eq!(repository.other_faults(), said);
+}
+
 /// The prover's own library needs no listing; one of another name does.
 #[test]
 fn a_library_that_is_not_the_provers() {
