@@ -60,11 +60,16 @@ pub record Consumed (chunk : List ℕ) (s : State) (m : Machines) (l : List ℕ)
   pub some : min (s.from + 1) (length chunk) ≤ r.from
   pub room : r.at ≤ 65536
 
--- a whole chunk: the text is what was written out, one output after the other, and what the writer got
-pub record Drained (chunk : List ℕ) (s : State) (m : Machines) (l : List ℕ) (before : Option (List ℕ)) (r : State) (m' : Machines) (l' : List ℕ) (after : Option (List ℕ)) : Type 0 where
+-- a whole chunk, where the program goes on: the text is what was written out, one output after the other
+pub record Drained (chunk : List ℕ) (s : State) (m : Machines) (l : List ℕ) (r : State) (m' : Machines) (l' : List ℕ) : Type 0 where
   pub text : List ℕ
-  pub went : (p : List ℕ) → Held p l s.len → Went (stand s m p) [] chunk r m' l' text []
-  pub written : Appends before after text
+  pub went : r.on ≡ true → (p : List ℕ) → Held p l s.len → Went (stand s m p) [] chunk r m' l' text []
+
+-- a whole chunk, and the program goes on: the text is what the writer got
+pub record DrainedInto (chunk : List ℕ) (s : State) (m : Machines) (l : List ℕ) (before : Option (List ℕ)) (r : State) (m' : Machines) (l' : List ℕ) (after : Option (List ℕ)) : Type 0 where
+  pub drained : Drained chunk s m l r m' l'
+  pub on : r.on ≡ true
+  pub written : Appends before after drained.text
 
 -- before the first line
 pub record Fresh (s : State) : Type 0 where

@@ -7,7 +7,7 @@ ghost use Rattle.std.specs.Io.KnownBytes.{Consumes, Appends, IsAtEnd};
 ghost use Rattle.schedule.specs.Text.{answer_text};
 ghost use Rattle.schedule.specs.Inner.{Printed};
 ghost use Rattle.rehearse.specs.Rehearsal.{machines, zeros, in_force, following};
-ghost use Rattle.rehearse.specs.Turns.{Buffers, Answered, Turned, Consumed, Drained, Fresh, Ended, Rehearsed, Rehearses};
+ghost use Rattle.rehearse.specs.Turns.{Buffers, Answered, Turned, Consumed, DrainedInto, Fresh, Ended, Rehearsed, Rehearses};
 
 mod calls; // calls.rt: the call that a line is, on the machine that it names
 mod failure; // failure.rt: what ends the program before the end of its input
@@ -148,7 +148,7 @@ fn flush<W: Write>(writer: &mut W, out: &[u8], at: usize) -> Result<(), Failure>
     writer.write_all(&out[..at]).map_err(Failure::Writing)
 }
 
-// The same, and writes their answers.
+// The same, and writes their answers: where that fails it does not go on.
 fn pass<W: Write>(
     writer: &mut W,
     m: &mut [u32],
@@ -161,11 +161,19 @@ fn pass<W: Write>(
     requires buffers { Buffers line.old out.old }
     requires from_in_bounds { s.from ≤ length chunk.now }
     ensures consumed { IfOk result (λ r. Consumed chunk.now s (machines s.wide m.old w.old) line.old r (machines r.wide m.new w.new) line.new out.new) }
+    ensures on { IfOk result (λ r. r.on ≡ true) }
     ensures written { IfOk result (λ r. Appends (W.contents writer.old) (W.contents writer.new) (take r.at out.new)) }
 {
     let t = consume(m, w, line, out, chunk, s);
     flush(writer, out, t.at)?;
-    Ok(t)
+    Ok(State {
+        lines: t.lines,
+        len: t.len,
+        from: t.from,
+        at: t.at,
+        on: true,
+        wide: t.wide,
+    })
 }
 
 // All of a chunk.
@@ -179,7 +187,7 @@ fn drain<W: Write>(
     s0: State,
 ) -> Result<State, Failure>
     requires { Buffers line.old out.old }
-    ensures { IfOk result (λ r. Drained chunk.now s0 (machines s0.wide m.old w.old) line.old (W.contents writer.old) r (machines r.wide m.new w.new) line.new (W.contents writer.new)) }
+    ensures { IfOk result (λ r. DrainedInto chunk.now s0 (machines s0.wide m.old w.old) line.old (W.contents writer.old) r (machines r.wide m.new w.new) line.new (W.contents writer.new)) }
 {
     let mut s = State {
         lines: s0.lines,
