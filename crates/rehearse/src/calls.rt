@@ -10,8 +10,8 @@ use tables::Conf;
 
 // "w is the page's first word, the others are zero."
 fn page(w: u32) -> [u32; 16]
-    ensures value { 16 ≡ length result }
-    ensures value_2 { result ≡ page_of w }
+    ensures sixteen { 16 ≡ length result }
+    ensures words { result ≡ page_of w }
 {
     [w, 0, 0, 0, 0, 0, 0, 0, 0, 0, 0, 0, 0, 0, 0, 0]
 }

@@ -257,7 +257,7 @@ fn run<R: Read, W: Write>(
     out: &mut [u8],
     chunk: &mut [u8],
 ) -> Result<(), Failure>
-    requires w_value { machines false m.old w.old ≡ zeros }
+    requires zero_words { machines false m.old w.old ≡ zeros }
     requires buffers { Buffers line.old out.old }
     ensures whole { OnOk result (Rehearsed m.new w.new line.new out.new) }
     ensures bytes { OnOk result (0 < length chunk.old → Rehearses (R.remaining reader.old) (W.contents writer.old) (W.contents writer.new)) }

@@ -4,7 +4,7 @@ use Rattle.rehearse.proofs.Pieces.{between_first, between_more, between_all, wro
 use Rattle.rehearse.proofs.run.Goals as goal
 
 pub loop-init : goal.loop-init
-loop-init g c = (refl, refl, refl, between_first _ _ _ _ _ _ c.requires.w_value c.fresh-s.ensures)
+loop-init g c = (refl, refl, refl, between_first _ _ _ _ _ _ c.requires.zero_words c.fresh-s.ensures)
 
 pub loop-preserved : goal.loop-preserved
 loop-preserved g c =
