@@ -60,6 +60,11 @@ pub record Consumed (chunk : List ℕ) (s : State) (m : Machines) (l : List ℕ)
   pub some : min (s.from + 1) (length chunk) ≤ r.from
   pub room : r.at ≤ 65536
 
+-- where the output fails: the lines were answered all the same, and some of their answers may have been written
+pub record Unwritten (chunk : List ℕ) (s : State) (m : Machines) (l m' w' l' out' : List ℕ) : Type 0 where
+  pub state : State
+  pub consumed : Consumed chunk s m l state (machines state.wide m' w') l' out'
+
 -- a whole chunk, where the program goes on: the text is what was written out, one output after the other
 pub record Drained (chunk : List ℕ) (s : State) (m : Machines) (l : List ℕ) (r : State) (m' : Machines) (l' : List ℕ) : Type 0 where
   pub text : List ℕ

@@ -1,13 +1,13 @@
 // Runs a schedule: each line of standard input is a call on one of two machines, answered by a line on standard output.
 #![tactic(auto)]
 
-ghost use Rattle.std.specs.Prelude.{◌≡◌, true, false, ◌+◌, ◌≤◌, ◌<◌, length, take, IfOk, OnOk};
+ghost use Rattle.std.specs.Prelude.{◌≡◌, true, false, ◌+◌, ◌≤◌, ◌<◌, length, take, IfOk, IfErr, OnOk};
 ghost use Rattle.std.specs.Io.{ReadsAtMost};
 ghost use Rattle.std.specs.Io.KnownBytes.{Consumes, Appends, IsAtEnd};
 ghost use Rattle.schedule.specs.Text.{answer_text};
 ghost use Rattle.schedule.specs.Inner.{Printed};
 ghost use Rattle.rehearse.specs.Rehearsal.{machines, zeros, in_force, following};
-ghost use Rattle.rehearse.specs.Turns.{Buffers, Answered, Turned, Consumed, DrainedInto, Fresh, Ended, Rehearsed, Rehearses};
+ghost use Rattle.rehearse.specs.Turns.{Buffers, Answered, Turned, Consumed, DrainedInto, Fresh, Ended, Rehearsed, Rehearses, Unwritten};
 
 mod calls; // calls.rt: the call that a line is, on the machine that it names
 mod failure; // failure.rt: what ends the program before the end of its input
@@ -163,6 +163,7 @@ fn pass<W: Write>(
     ensures consumed { IfOk result (λ r. Consumed chunk.now s (machines s.wide m.old w.old) line.old r (machines r.wide m.new w.new) line.new out.new) }
     ensures on { IfOk result (λ r. r.on ≡ true) }
     ensures written { IfOk result (λ r. Appends (W.contents writer.old) (W.contents writer.new) (take r.at out.new)) }
+    ensures unwritten { IfErr result (λ e. Unwritten chunk.now s (machines s.wide m.old w.old) line.old m.new w.new line.new out.new) }
 {
     let t = consume(m, w, line, out, chunk, s);
     flush(writer, out, t.at)?;
