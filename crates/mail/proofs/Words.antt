@@ -17,7 +17,7 @@ use Rattle.tables.specs.Machines.{message_of, slots_of}
 use Rattle.tables.proofs.All.{all_map}
 use Rattle.tables.proofs.Table.{Wide, rows_words_back, length_rows, put_before, rows_set, rows_of_back}
 use Rattle.tables.proofs.Parts.{first_word_lem, length_put}
-use Rattle.tables.proofs.Read.{message_words_lem, slot_at, slots_many}
+use Rattle.tables.proofs.Read.{message_words_lem, slot_at_lem, slots_many}
 use Rattle.tables.proofs.Round.{message_wide, message_back}
 use Rattle.tables.proofs.Whole.{Paged, slots_paged}
 use Rattle.mail.specs.Slots.{empty_slots}
@@ -32,7 +32,7 @@ few_empty l = omega (arith, count_le is_empty (slots_of l), slots_many l)
 module _ (l : List ℕ) (s : ℕ) (h : s < 128) where
   kind_word : (get_or (slots_of l) s no_message).kind ≡ get_or l (s * 24) 0
   unfolding message_of
-  kind_word = ap (λ (x : Message). x.kind) (slot_at l s h) ∙ first_word_lem l (s * 24)
+  kind_word = ap (λ (x : Message). x.kind) (slot_at_lem l s h) ∙ first_word_lem l (s * 24)
 
   pub slot_empty : get_or l (s * 24) 0 ≡ 0 → is_empty (get_or (slots_of l) s no_message) ≡ true
   slot_empty e = eq-eqb _ _ (kind_word ∙ e)

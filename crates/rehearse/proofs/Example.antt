@@ -28,9 +28,9 @@ abbrev wide_after : Bool → Command → Bool
 wide_after before c = (machines_after c (machines before (replicate 4992 0) (replicate 5036 0))).is_wide
 
 -- an accepted C, and a refused S while the wide machine is in force; an accepted S then, and a refused C where it is not
-pub taken-over :
+pub taken_over :
     wide_after false (Columns 1 2 1 0 1 6 7) ∷ wide_after true (SetUp 1 2 1 0 1 1 6 7)
     ∷ wide_after true (SetUp 1 1 1 0 1 1 6 7) ∷ wide_after false (Columns 1 2 1 0 3 6 7) ∷ []
     ≡ true ∷ true ∷ false ∷ false ∷ []
 unfolding directory_of message_of rows_of directories_of slots_of machine_of messages_of good_numbers refusal effect_of step call
-taken-over = refl
+taken_over = refl

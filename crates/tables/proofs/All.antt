@@ -39,9 +39,9 @@ module _ {A : Type 0} {P : A → Type 0} where
   all_with_row zero a q ps = ps
   all_with_row (suc p) a q ps = all_set p a q ps
 
-  pub all_of : ((a : A) → P a) → (xs : List A) → All P xs
-  all_of f [] = none
-  all_of f (x ∷ xs) = cons (f x) (all_of f xs)
+  pub all_of_lem : ((a : A) → P a) → (xs : List A) → All P xs
+  all_of_lem f [] = none
+  all_of_lem f (x ∷ xs) = cons (f x) (all_of_lem f xs)
 
   pub all_map : {Q : A → Type 0} → ((a : A) → P a → Q a) → {xs : List A} → All P xs → All Q xs
   all_map f none = none

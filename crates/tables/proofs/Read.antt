@@ -74,9 +74,9 @@ pub directory_at_lem : (n : ℕ) (l : List ℕ) (i : ℕ) → i < n → get_or (
 unfolding directories_of
 directory_at_lem n l i h = get_or_rows_of directory_of n 4 l i no_directory h
 
-pub slot_at : (l : List ℕ) (i : ℕ) → i < 128 → get_or (slots_of l) i no_message ≡ message_of (drop (i * 24) l)
+pub slot_at_lem : (l : List ℕ) (i : ℕ) → i < 128 → get_or (slots_of l) i no_message ≡ message_of (drop (i * 24) l)
 unfolding slots_of
-slot_at l i h = get_or_rows_of message_of 128 24 l i no_message h
+slot_at_lem l i h = get_or_rows_of message_of 128 24 l i no_message h
 
 pub entry_at : (l : List ℕ) (j : ℕ) → j < 12 → get_or (entries_of l) j no_entry ≡ entry_of (drop (j * 20) l)
 unfolding entries_of

@@ -19,7 +19,7 @@ use Rattle.tables.specs.Inner.{put, most_of, down_at, with_down, with_entry}
 use Rattle.tables.specs.Machines.{conf_of, client_of, directory_of, entry_of, message_of, clients_of, directories_of, slots_of, entries_of, replicas_of, machine_of}
 use Rattle.tables.specs.Tables.{Replica, Machine, no_client, no_directory, no_replica, replica_at, with_client, with_directory, with_slots}
 use Rattle.tables.specs.Words.{conf_words, client_words, directory_words, down_words, entry_words, replica_words, message_words, blocks, words}
-use Rattle.tables.proofs.All.{All, none, cons, all_of, all_map}
+use Rattle.tables.proofs.All.{All, none, cons, all_of_lem, all_map}
 use Rattle.tables.proofs.Table.{Wide, wider, take_cells, set_put, length_rows, rows_same, rows_set, rows_of_back, rows_words_back}
 use Rattle.tables.proofs.Blocks.{offset, joined_drop, block_all, block_put, block_set}
 use Rattle.tables.proofs.Read.{client_words_lem, directory_words_lem, message_words_lem, replica_words_lem}
@@ -86,10 +86,10 @@ module _ (lay : Layout) (M : Machine) (t : List ℕ) (z : Whole M) (room : Room 
   clients_wide = all_map client_wide z.client_pages
 
   directories_wide : Wide directory_words 4 M.directories
-  directories_wide = all_of directory_wide M.directories
+  directories_wide = all_of_lem directory_wide M.directories
 
   downs_wide : Wide down_words 1 M.replicas
-  downs_wide = all_of down_wide M.replicas
+  downs_wide = all_of_lem down_wide M.replicas
 
   replicas_wide : Wide replica_words 240 M.replicas
   replicas_wide = all_map replica_wide z.stocks
@@ -171,7 +171,7 @@ module _ (lay : Layout) (M : Machine) (t : List ℕ) (z : Whole M) (room : Room 
   unfolding directories_of blocks joined
   directories_back =
       rw (from 3 208 at_directories)
-      (rows_of_back directory_words 4 directory_of (λ x p. directory_wide x) directory_back (all_of (λ x. tt) M.directories) lay.directories _ room)
+      (rows_of_back directory_words 4 directory_of (λ x p. directory_wide x) directory_back (all_of_lem (λ x. tt) M.directories) lay.directories _ room)
 
   gap_back : take 5 (drop (gap_at lay) (words M t)) ≡ M.gap
   unfolding blocks joined

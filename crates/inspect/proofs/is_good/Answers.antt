@@ -30,13 +30,13 @@ module _ (lay : Layout) (m : List ℕ) (k : Conf) (at : k ≡ conf_of m) (b : Bo
   few_parties : Fits lay m → not b ≡ false → Few k
   few_parties l h = few lay.directories k (sym n ∙ not-false b h) (omega arith)
 
-  all-good : (flags gap entries slots : ℕ) → flags ≡ flags_at lay → gap ≡ gap_at lay → entries ≡ entries_at lay + 0 * 240 → slots ≡ slots_at lay
+  all_good : (flags gap entries slots : ℕ) → flags ≡ flags_at lay → gap ≡ gap_at lay → entries ≡ entries_at lay + 0 * 240 → slots ≡ slots_at lay
       → (z c d g r s : Bool) → not b ≡ false → z ≡ zeros (take 8 (drop 8 m)) → c ≡ each_row (client_row k) 1 (clients_of (rest m 16))
       → d ≡ each_row (directory_row k) 1 (directories_of lay.directories (rest m 208)) → g ≡ zeros (take (entries - gap) (drop gap m))
       → r ≡ each_row (replica_row k) 1 (replicas_of 7 (rest m flags) (rest m entries)) → s ≡ each_row (slot_row k) 1 (slots_of (rest m slots))
       → z && c && d && g && r && s ≡ good lay m
   unfolding good good_machine machine_of
-  all-good flags gap entries slots fl ga en sl z c d g r s h p q e i j l =
+  all_good flags gap entries slots fl ga en sl z c d g r s h p q e i j l =
       let en' : entries ≡ entries_at lay = omega arith in
       let five : entries - gap_at lay ≡ 5 = omega arith in
       rw (its_room lay m, ← at, ← n, not-false b h, p, q, e, i, j, l, ga, five, rest_all m 16, rest_all m 208, rest_all m flags, rest_all m entries, rest_all m slots, fl, en', sl)
@@ -54,4 +54,4 @@ pub slots-requires : goal.slots-requires
 slots-requires c = (search rules, search few_parties)
 
 pub returns : goal.returns
-returns c = search all-good
+returns c = search all_good

@@ -44,13 +44,13 @@ module _ (k : Conf) (l : List ℕ) (j : ℕ) (low : j < 12) (e : Entry) (at : e 
     unfolding good_at good_entry fresh_at
     used = rw (this, ne_eqb _ _ z) (ordered (leb e.state 2) (good_tag k e.tag) (eqb e.spare 0) _)
 
-    bad-word : leb e.state 2 && eqb e.spare 0 ≡ false
+    bad_word : leb e.state 2 && eqb e.spare 0 ≡ false
         → leb e.state 2 && eqb e.spare 0 ≡ good_at k (entries_of l) j
-    bad-word h = and_stops (leb e.state 2 && eqb e.spare 0) _ h ∙ used
+    bad_word h = and_stops (leb e.state 2 && eqb e.spare 0) _ h ∙ used
 
     module _ (h : leb e.state 2 && eqb e.spare 0 ≡ true) (t : Bool) (q : t ≡ good_tag k e.tag) where
-      bad-tag : t ≡ false → t ≡ good_at k (entries_of l) j
-      bad-tag f = q ∙ and_stops (good_tag k e.tag) _ (sym q ∙ f) ∙ and_goes (leb e.state 2 && eqb e.spare 0) _ h ∙ used
+      bad_tag : t ≡ false → t ≡ good_at k (entries_of l) j
+      bad_tag f = q ∙ and_stops (good_tag k e.tag) _ (sym q ∙ f) ∙ and_goes (leb e.state 2 && eqb e.spare 0) _ h ∙ used
 
       searched : (x : Bool) → t ≡ true → x ≡ some? (has_tag e.tag) (take j (entries_of l))
           → not x ≡ good_at k (entries_of l) j
@@ -63,7 +63,7 @@ pub returns-then-tag : goal.returns-then-tag
 returns-then-tag c = search searched
 
 pub returns-else-tag : goal.returns-else-tag
-returns-else-tag c = search bad-tag
+returns-else-tag c = search bad_tag
 
 pub returns-else-e : goal.returns-else-e
-returns-else-e c = search bad-word
+returns-else-e c = search bad_word

@@ -30,24 +30,24 @@ module _ (k : Conf) (used : Bool) (down : ℕ) (l : List ℕ) where
     unfolding good_entries replica_in good_replica
     in_use = rw u (joined (leb down 1) (each_row (λ e. good_entry k) 1 (entries_of l)) (tags_once (entries_of l)) (some? is_secured (entries_of l)))
 
-    bad-flag : 1 < down → leb down 1 ≡ replica_in k used down l
-    bad-flag h = and_stops (leb down 1) _ (lt-leb _ _ h) ∙ in_use
+    bad_flag : 1 < down → leb down 1 ≡ replica_in k used down l
+    bad_flag h = and_stops (leb down 1) _ (lt-leb _ _ h) ∙ in_use
 
     module _ (d : down ≤ 1) (a : Bool) (q : a ≡ good_entries k (entries_of l)) where
-      bad-entries : a ≡ false → a ≡ replica_in k used down l
-      bad-entries h = q ∙ and_stops (good_entries k (entries_of l)) _ (sym q ∙ h) ∙ and_goes (leb down 1) _ (le-leb _ _ d) ∙ in_use
+      bad_entries : a ≡ false → a ≡ replica_in k used down l
+      bad_entries h = q ∙ and_stops (good_entries k (entries_of l)) _ (sym q ∙ h) ∙ and_goes (leb down 1) _ (le-leb _ _ d) ∙ in_use
 
-      good-entries : (s : Bool) → a ≡ true → s ≡ some? is_secured (entries_of l) → s ≡ replica_in k used down l
-      good-entries s h e = e ∙ and_goes (good_entries k (entries_of l)) _ (sym q ∙ h) ∙ and_goes (leb down 1) _ (le-leb _ _ d) ∙ in_use
+      entries_good : (s : Bool) → a ≡ true → s ≡ some? is_secured (entries_of l) → s ≡ replica_in k used down l
+      entries_good s h e = e ∙ and_goes (good_entries k (entries_of l)) _ (sym q ∙ h) ∙ and_goes (leb down 1) _ (le-leb _ _ d) ∙ in_use
 
 pub returns-then-all : goal.returns-then-all
-returns-then-all c = search good-entries
+returns-then-all c = search entries_good
 
 pub returns-else-all : goal.returns-else-all
-returns-else-all c = search bad-entries
+returns-else-all c = search bad_entries
 
 pub returns-else-down-le1 : goal.returns-else-down-le1
-returns-else-down-le1 c = search bad-flag
+returns-else-down-le1 c = search bad_flag
 
 pub returns : goal.returns
 returns c = search blank

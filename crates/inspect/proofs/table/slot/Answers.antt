@@ -19,15 +19,15 @@ use Rattle.inspect.proofs.Within.{message_within_lem, limits_at}
 use Rattle.inspect.proofs.table.slot.Goals as goal
 
 module _ (l : List ℕ) (t : List (List ℕ)) (k : Conf) (of : t ≡ kind_table k) where
-  kind-of : (message_of l).kind ≡ get_or l 0 0
+  kind_of : (message_of l).kind ≡ get_or l 0 0
   unfolding message_of
-  kind-of = refl
+  kind_of = refl
 
   module _ (wide : length l ≡ 24) (z : get_or l 0 0 ≡ 0) (a : Bool) (p : a ≡ zeros (take 4 l)) where
     parts : zeros (take 4 l) && zeros (take 20 (drop 4 l)) ≡ slot_row k 0 (message_of l)
     unfolding slot_row
     parts =
-        rw (eq-eqb (message_of l).kind 0 (kind-of ∙ z)) (zeros_parts 4 20 l wide ∙ own_words 24 l (message_words (message_of l)) wide (message_words_lem l))
+        rw (eq-eqb (message_of l).kind 0 (kind_of ∙ z)) (zeros_parts 4 20 l wide ∙ own_words 24 l (message_words (message_of l)) wide (message_words_lem l))
 
     empty : (b : Bool) → a ≡ true → b ≡ zeros (take 20 (drop 4 l)) → b ≡ slot_row k 0 (message_of l)
     empty b h q = rw (← p, ← q, h) at parts
@@ -37,7 +37,7 @@ module _ (l : List ℕ) (t : List (List ℕ)) (k : Conf) (of : t ≡ kind_table 
 
   above : 15 < get_or l 0 0 → false ≡ slot_row k 0 (message_of l)
   unfolding slot_row good_message
-  above h = rw (ne_eqb (message_of l).kind 0 (λ e. omega (arith, kind-of)), lt-leb (message_of l).kind 15 (omega (arith, kind-of)))
+  above h = rw (ne_eqb (message_of l).kind 0 (λ e. omega (arith, kind_of)), lt-leb (message_of l).kind 15 (omega (arith, kind_of)))
 
   in_use : (y : Limits) (x : Message) (p : ℕ) (r : Bool) → (get_or l 0 0 ≡ 0 → ⊥) → get_or l 0 0 ≤ 15 → y ≡ limits_of (get_or t (get_or l 0 0) []) → x ≡ message_of l
       → eqb p 0 ≡ zeros (take 16 (drop 8 l)) → p < 4294967296 → r ≡ message_within y x p → r ≡ slot_row k 0 (message_of l)

@@ -8,7 +8,7 @@ use lib.ListN.{take, drop}
 use Rattle.tables.specs.declared.Conf.{Conf}
 use Rattle.tables.specs.Tables.{no_message}
 use Rattle.tables.specs.Machines.{message_of, slots_of}
-use Rattle.tables.proofs.Read.{slot_at, slots_many, message_cut}
+use Rattle.tables.proofs.Read.{slot_at_lem, slots_many, message_cut}
 use Rattle.inspect.specs.Good.{each_row, slot_row}
 use Rattle.inspect.specs.Inner.{kind_table}
 use Rattle.inspect.proofs.Each.{Passed, each_end, table_more}
@@ -24,7 +24,7 @@ module _ (l : List ℕ) (t : List (List ℕ)) (i : ℕ) (g : Good l t i) where
     turn : (k : Conf) → t ≡ kind_table k → Passed (slot_row k) (slots_of l) (i + 1) x
     unfolding slot_row
     turn k of =
-        table_more (slot_row k) message_of no_message (slots_of l) l 128 24 (λ i. i * 24) (slots_many l) (slot_at l) message_cut
+        table_more (slot_row k) message_of no_message (slots_of l) l 128 24 (λ i. i * 24) (slots_many l) (slot_at_lem l) message_cut
         i true (g.by k of) x h (says k of)
 
     more : not x ≡ false → Good l t (i + 1)

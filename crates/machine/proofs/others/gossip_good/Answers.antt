@@ -35,11 +35,11 @@ use Rattle.machine.proofs.Steps.{took_refused, took_accepted}
 use Rattle.machine.proofs.others.gossip_good.Goals as goal
 
 -- refused unless both are replicas and not the same
-not-all : (x y z : Bool) → not x || not y || z ≡ not (x && y && not z)
-not-all true true true = refl
-not-all true true false = refl
-not-all true false z = refl
-not-all false y z = refl
+not_all : (x y z : Bool) → not x || not y || z ≡ not (x && y && not z)
+not_all true true true = refl
+not_all true true false = refl
+not_all true false z = refl
+not_all false y z = refl
 
 module _ (from to n : ℕ) (b : Bool) (e : b ≡ two_of n from to) (h : not b ≡ false) where
   both : two_of n from to ≡ true
@@ -51,20 +51,20 @@ module _ (from to n : ℕ) (b : Bool) (e : b ≡ two_of n from to) (h : not b �
   high : from ≤ n
   high = le_by from n (two_of n from to) (λ f. simp (f, and-false)) both
 
-  low-to : 1 ≤ to
-  low-to = le_by 1 to (two_of n from to) (λ f. simp (f, and-false)) both
+  low_to : 1 ≤ to
+  low_to = le_by 1 to (two_of n from to) (λ f. simp (f, and-false)) both
 
-  high-to : to ≤ n
-  high-to = le_by to n (two_of n from to) (λ f. simp (f, and-false)) both
+  high_to : to ≤ n
+  high_to = le_by to n (two_of n from to) (λ f. simp (f, and-false)) both
 
 module _ (lay : Layout) (m : List ℕ) (g : Ready lay m) (from to : ℕ) (k : Conf) (at : k ≡ conf_of m) (b : Bool) (e : b ≡ two_of k.replicas from to) where
-  test-is : not (is_party (machine_of lay m).conf AReplica from) || not (is_party (machine_of lay m).conf AReplica to) || eqb from to ≡ not b
+  test_is : not (is_party (machine_of lay m).conf AReplica from) || not (is_party (machine_of lay m).conf AReplica to) || eqb from to ≡ not b
   unfolding machine_of
-  test-is = rw (← at, not-all (between 1 k.replicas from) (between 1 k.replicas to) (eqb from to), e)
+  test_is = rw (← at, not_all (between 1 k.replicas from) (between 1 k.replicas to) (eqb from to), e)
 
   out : (a : Answer) → not b ≡ true → a ≡ coded 18 → Took lay (step (gossip from to) (machine_of lay m)) a [] m m
   unfolding refusal
-  out a h q = took_refused lay (gossip from to) m 18 a g.long (λ z. omega arith) (rw (test-is, h)) q
+  out a h q = took_refused lay (gossip from to) m 18 a g.long (λ z. omega arith) (rw (test_is, h)) q
 
   module _ (h : not b ≡ false) where
     seven : k.replicas ≤ 7
@@ -78,7 +78,7 @@ module _ (lay : Layout) (m : List ℕ) (g : Ready lay m) (from to : ℕ) (k : Co
         record {
           long = g.long;
           row = place;
-          receiver = record { low = low-to from to k.replicas b e h; high = omega (arith, seven, high-to from to k.replicas b e h) };
+          receiver = record { low = low_to from to k.replicas b e h; high = omega (arith, seven, high_to from to k.replicas b e h) };
         }
 
     row_is : suc (from - 1) ≡ from
@@ -90,7 +90,7 @@ module _ (lay : Layout) (m : List ℕ) (g : Ready lay m) (from to : ℕ) (k : Co
 
       down : d ≡ 1 → a ≡ coded 19 → Took lay (step (gossip from to) (machine_of lay m)) a [] m m
       unfolding refusal
-      down y q = took_refused lay (gossip from to) m 19 a g.long (λ x. omega arith) (rw (test-is, h, own_down, eq-eqb _ _ y)) q
+      down y q = took_refused lay (gossip from to) m 19 a g.long (λ x. omega arith) (rw (test_is, h, own_down, eq-eqb _ _ y)) q
 
       module _ (up : d ≡ 1 → ⊥) (p : Post) (s : p ≡ gossip_post (replica_at (machine_of lay m) (suc (from - 1))).entries from to) where
         post_is : gossip_post (replica_at (machine_of lay m) from).entries from to ≡ p
@@ -98,14 +98,14 @@ module _ (lay : Layout) (m : List ℕ) (g : Ready lay m) (from to : ℕ) (k : Co
 
         few : p.to < 2 ^ 16
         unfolding gossip_post
-        few = rw s (only_lt 16 to (omega (arith, seven, high-to from to k.replicas b e h)))
+        few = rw s (only_lt 16 to (omega (arith, seven, high_to from to k.replicas b e h)))
 
         module _ (r : Bool) (y : r ≡ leb (size p.to) (empty_slots (machine_of lay m).slots + 0)) where
           full : not r ≡ true → a ≡ coded 24 → Took lay (step (gossip from to) (machine_of lay m)) a [] m m
           unfolding refusal effect_of gossip_effect
           full x q =
               took_refused lay (gossip from to) m 24 a g.long (λ x. omega arith)
-              (rw (test-is, h, own_down, ne_eqb _ _ up, post_is, no_slot_lem (machine_of lay m) nothing p few r y, x)) q
+              (rw (test_is, h, own_down, ne_eqb _ _ up, post_is, no_slot_lem (machine_of lay m) nothing p few r y, x)) q
 
           done : (l : List ℕ) → not r ≡ false → a ≡ coded 0
               → l ≡ words (with_slots (machine_of lay m) (placed (messages_of p) (machine_of lay m).slots)) (drop (extent lay) m)
@@ -113,7 +113,7 @@ module _ (lay : Layout) (m : List ℕ) (g : Ready lay m) (from to : ℕ) (k : Co
           unfolding refusal effect_of gossip_effect
           done l x q t =
               took_accepted lay (gossip from to) m l [] a
-              (rw (test-is, h, own_down, ne_eqb _ _ up, post_is, no_slot_lem (machine_of lay m) nothing p few r y, x)) q refl (rw post_is t)
+              (rw (test_is, h, own_down, ne_eqb _ _ up, post_is, no_slot_lem (machine_of lay m) nothing p few r y, x)) q refl (rw post_is t)
 
 pub down-requires : goal.down-requires
 down-requires c = (search rules, search place)

@@ -15,17 +15,17 @@ module _ (n : ℕ) where
   unfolding receiver_of
   from_one l h = simp (le-ltb _ _ l, lt-ltb _ _ h)
 
-  from-five : 5 ≤ n → n < 9 → AClient ≡ receiver_of n
+  from_five : 5 ≤ n → n < 9 → AClient ≡ receiver_of n
   unfolding receiver_of
-  from-five l h = simp (le-ltb n 1 (omega arith), le-ltb _ _ l, lt-ltb _ _ h)
+  from_five l h = simp (le-ltb n 1 (omega arith), le-ltb _ _ l, lt-ltb _ _ h)
 
-  from-nine : 9 ≤ n → n < 12 → AReplica ≡ receiver_of n
+  from_nine : 9 ≤ n → n < 12 → AReplica ≡ receiver_of n
   unfolding receiver_of
-  from-nine l h = simp (le-ltb n 1 (omega arith), le-ltb n 5 (omega arith), le-ltb _ _ l, lt-ltb _ _ h)
+  from_nine l h = simp (le-ltb n 1 (omega arith), le-ltb n 5 (omega arith), le-ltb _ _ l, lt-ltb _ _ h)
 
-  from-twelve : 12 ≤ n → n < 14 → AClient ≡ receiver_of n
+  from_twelve : 12 ≤ n → n < 14 → AClient ≡ receiver_of n
   unfolding receiver_of
-  from-twelve l h = simp (le-ltb n 1 (omega arith), le-ltb n 5 (omega arith), le-ltb n 9 (omega arith), le-ltb _ _ l, lt-ltb _ _ h)
+  from_twelve l h = simp (le-ltb n 1 (omega arith), le-ltb n 5 (omega arith), le-ltb n 9 (omega arith), le-ltb _ _ l, lt-ltb _ _ h)
 
   fourteen : n ≡ 14 → ADirectory ≡ receiver_of n
   unfolding receiver_of
@@ -50,10 +50,10 @@ module _ (n : ℕ) where
       )
 
 pub returns-in-5-to-8 : goal.returns-in-5-to-8
-returns-in-5-to-8 c = search from-five
+returns-in-5-to-8 c = search from_five
 
 pub returns-in-5-to-8-2 : goal.returns-in-5-to-8-2
-returns-in-5-to-8-2 c = search from-twelve
+returns-in-5-to-8-2 c = search from_twelve
 
 pub returns-in_default : goal.returns-in_default
 returns-in_default c = search below
@@ -65,7 +65,7 @@ pub returns-in-9-to-11 : goal.returns-in-9-to-11
 returns-in-9-to-11 c = search fifteen
 
 pub returns-in-9-to-11-2 : goal.returns-in-9-to-11-2
-returns-in-9-to-11-2 c = search from-nine
+returns-in-9-to-11-2 c = search from_nine
 
 pub returns-in-1-to-4 : goal.returns-in-1-to-4
 returns-in-1-to-4 c = search fourteen
