@@ -4,6 +4,7 @@
 
 ghost use Rattle.std.specs.Prelude.{◌≤◌, length, IfOk};
 
+use sample::Words;
 use std::io;
 use std::io::Read;
 use tables::BASE;
@@ -13,86 +14,56 @@ mod sample; // sample.rt: the two machines
 
 // One answer: the verdict, and the rest of the line.
 fn answer(rt: &impl Print, ok: bool, text: &[u8]) -> io::Result<()> {
-    if ok {
-        rt.write_all(b"good")?;
-    } else {
-        rt.write_all(b"bad ")?;
-    }
+    rt.write_all(if ok { b"good" } else { b"bad " })?;
     rt.write_all(text)?;
     rt.write_all(b"\n")
 }
 
 // The verdict on the machine as it is.
-fn is_good(m: &[u32]) -> bool
-    requires { 4992 ≤ length m.now }
-{
+fn is_good(m: &Words) -> bool {
     inspect::is_good(BASE, m)
 }
 
 // The verdict on the machine with one word changed.
-fn with_word(m: &mut [u32], place: usize, value: u32) -> bool
-    requires { 4992 ≤ length m.old }
-{
-    if place < 4992 {
-        let old = m[place];
-        m[place] = value;
-        let ok = is_good(m);
-        m[place] = old;
-        return ok;
-    }
-    false
+fn with_word(m: &mut Words, place: usize, value: u32) -> bool {
+    let Some(&old) = m.get(place) else {
+        return false;
+    };
+    m[place] = value;
+    let ok = is_good(m);
+    m[place] = old;
+    ok
 }
 
 // The answer to one line.
-fn respond(rt: &impl Print, m: &mut [u32], line: &[u8]) -> io::Result<()>
-    requires { 4992 ≤ length m.old }
-{
-    if line.len() == 0 {
-        return Ok(());
-    }
-    if line[0] == b'u' {
-        sample::after_set_up(m);
-        return answer(rt, is_good(m), &line[1..]);
-    }
-    if line[0] == b'r' {
-        sample::every_row(m);
-        return answer(rt, is_good(m), &line[1..]);
-    }
-    let place = number::field(line, 0);
-    let from = place.next;
-    let value = number::field(line, from);
-    let text = value.next;
-    let ok = with_word(m, place.value as usize, value.value);
-    answer(rt, ok, &line[text..])
-}
-
-// The first line end from `from` on, or the end of the text.
-fn line_end(s: &[u8], from: usize) -> usize
-    requires { from ≤ length s.now }
-    ensures { (from ≤ result) × (result ≤ length s.now) }
-{
-    for i in from..s.len() {
-        if s[i] == b'\n' {
-            return i;
+fn respond(rt: &impl Print, m: &mut Words, line: &[u8]) -> io::Result<()> {
+    match line {
+        [] => Ok(()),
+        [b'u', text @ ..] => {
+            sample::after_set_up(m);
+            answer(rt, is_good(m), text)
+        }
+        [b'r', text @ ..] => {
+            sample::every_row(m);
+            answer(rt, is_good(m), text)
+        }
+        _ => {
+            let (place, rest) = number::field(line);
+            let (value, text) = number::field(rest);
+            answer(rt, with_word(m, place as usize, value), text)
         }
     }
-    s.len()
 }
 
 // The answers to all lines, in order.
-fn run(rt: &impl Print, m: &mut [u32], input: &[u8]) -> io::Result<()>
-    requires { 4992 ≤ length m.old }
-{
-    let mut at = 0;
-    while at < input.len() {
-        let end = line_end(input, at);
-        respond(rt, m, &input[at..end])?;
-        at = end + 1;
+fn run(rt: &impl Print, m: &mut Words, input: &[u8]) -> io::Result<()> {
+    for line in input.split(|b| *b == b'\n') {
+        respond(rt, m, line)?;
     }
     Ok(())
 }
 
-// Reads until the buffer is full or the input ends; the number of bytes read.
+// Reads until the buffer is full or the input ends; the number of bytes read. `read_exact` would not tell it where the input ends first.
 fn read_full<R: Read>(reader: &mut R, buffer: &mut [u8]) -> io::Result<usize>
     ensures { IfOk result (λ n. n ≤ length buffer.new) }
 {

@@ -1,10 +1,9 @@
 // Example 12: a write's number at top.
 ghost use Rattle.std.specs.Prelude.{◌≤◌};
 
-use crate::show;
 use crate::tags::tag;
 use rules::{Outcome, client};
-use std::io;
+use std::{fmt, io};
 use tables::{Client, Conf, Message};
 
 // Client 1, in phase 4 of a write, gets the one reply that it waits for, with number n.
@@ -44,26 +43,30 @@ fn hears(top: u32, n: u32) -> Outcome
     client::outcome_of(k, 1, w, x)
 }
 
-fn outcome(rt: &impl Print, o: Outcome) -> io::Result<()> {
-    match o {
-        Outcome::Waiting => show::text(rt, b"waiting"),
-        Outcome::Next(t) => {
-            show::text(rt, b"number ")?;
-            show::number(rt, t.number)
+// An outcome in words: of a next phase the number of its tag.
+#[derive(Clone, Copy)]
+struct Words(Outcome);
+
+impl fmt::Display for Words {
+    fn fmt<W: fmt::Write>(&self, f: &mut fmt::Formatter<W>) -> fmt::Result {
+        match self.0 {
+            Outcome::Waiting => f.write_str("waiting"),
+            Outcome::Next(t) => write!(f, "number {}", t.number),
+            Outcome::ReadEnded(_, _) => f.write_str("READ ENDED"),
+            Outcome::WriteEnded(_) => f.write_str("WRITE ENDED"),
+            Outcome::Spent => f.write_str("SPENT"),
+            Outcome::Stale => f.write_str("STALE"),
         }
-        Outcome::ReadEnded(_, _) => show::text(rt, b"READ ENDED"),
-        Outcome::WriteEnded(_) => show::text(rt, b"WRITE ENDED"),
-        Outcome::Spent => show::text(rt, b"SPENT"),
-        Outcome::Stale => show::text(rt, b"STALE"),
     }
 }
 
 fn greatest(rt: &impl Print, top: u32, n: u32) -> io::Result<()>
     requires { 3 ≤ top }
 {
-    print!(rt; "12 top {top}, greatest number {n}: ")?;
-    outcome(rt, hears(top, n))?;
-    show::text(rt, b"\n")
+    println!(rt;
+        "12 top {top}, greatest number {n}: {}",
+        Words(hears(top, n))
+    )
 }
 
 pub fn run(rt: &impl Print) -> io::Result<()> {

@@ -2,9 +2,10 @@
 ghost use Rattle.std.specs.Prelude.{◌≤◌};
 ghost use Rattle.rules.specs.Inner.{DirectoryAble};
 
-use crate::show;
+use crate::show::{Pair, Parties};
 use crate::tags::tag;
-use sets::{Order, Tag};
+use rules::directory;
+use sets::Tag;
 use std::io;
 use tables::{Directory, Message};
 
@@ -16,39 +17,19 @@ fn d() -> Directory {
     }
 }
 
-fn same_row(a: Directory, b: Directory) -> bool {
-    if !(a.set == b.set) {
-        return false;
-    }
-    match sets::compare(a.tag, b.tag) {
-        Order::Lower => false,
-        Order::Same => true,
-        Order::Greater => false,
-    }
-}
-
 // D's row afterwards; where it is as before, whether it replied.
-fn outcome(rt: &impl Print, after: Directory, to: u32) -> io::Result<()> {
-    if !same_row(d(), after) {
-        show::tag(rt, after.tag)?;
-        show::text(rt, b", ")?;
-        return show::set(rt, after.set);
-    }
-    show::text(rt, b"no change")?;
-    if to == 0 {
-        Ok(())
-    } else {
-        show::text(rt, b", reply")
-    }
-}
-
 fn takes(rt: &impl Print, x: Message) -> io::Result<()>
     requires { DirectoryAble 1 x }
 {
-    let after = rules::directory::after(1, d(), x);
-    let post = rules::directory::post(d(), x);
-    outcome(rt, after, post.to)?;
-    show::text(rt, b"\n")
+    let after = directory::after(1, d(), x);
+    let post = directory::post(d(), x);
+    if after != d() {
+        println!(rt; "{}, {}", Pair(after.tag), Parties(after.set))
+    } else if post.to == 0 {
+        println!(rt; "no change")
+    } else {
+        println!(rt; "no change, reply")
+    }
 }
 
 fn message(kind: u32, sender: u32, t: Tag, set: u32, number: u32) -> Message
@@ -69,19 +50,13 @@ fn message(kind: u32, sender: u32, t: Tag, set: u32, number: u32) -> Message
 
 // Wwrite with tag t and set s, from client 1.
 fn wwrite(rt: &impl Print, n: u32, t: Tag, s: u32) -> io::Result<()> {
-    print!(rt; "{n} D takes wwrite ")?;
-    show::tag(rt, t)?;
-    show::text(rt, b", ")?;
-    show::set(rt, s)?;
-    show::text(rt, b": ")?;
+    print!(rt; "{n} D takes wwrite {}, {}: ", Pair(t), Parties(s))?;
     takes(rt, message(4, 1, t, s, 1))
 }
 
 // Notice with tag t, from replica 3.
 fn notice(rt: &impl Print, n: u32, t: Tag) -> io::Result<()> {
-    print!(rt; "{n} D takes notice ")?;
-    show::tag(rt, t)?;
-    show::text(rt, b" from 3: ")?;
+    print!(rt; "{n} D takes notice {} from 3: ", Pair(t))?;
     takes(rt, message(14, 3, t, 0, 0))
 }
 

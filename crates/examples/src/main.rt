@@ -2,7 +2,7 @@
 // computes it.
 #![tactic(auto)]
 
-mod show; // show.rt: numbers, tags, sets and entries as text
+mod show; // show.rt: tags, sets and entries as text
 mod tags; // tags.rt: examples 1 and 2
 mod directories; // directories.rt: examples 3 to 7
 mod replicas; // replicas.rt: examples 8 to 11, FULL

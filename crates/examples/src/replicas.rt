@@ -1,7 +1,7 @@
 // Examples 8 to 11, read with its mark and tidy, and FULL, on the 240 words of a replica's entries.
 ghost use Rattle.std.specs.Prelude.{◌≤◌, length};
 
-use crate::show;
+use crate::show::{Entries, Pair};
 use crate::tags::tag;
 use rules::{replica, tidy};
 use sets::Tag;
@@ -17,35 +17,26 @@ fn entry(state: u32, t: Tag) -> Entry {
     }
 }
 
-// The replica and its number, as a case begins.
-fn begin(rt: &impl Print, n: u32, l: &[u32]) -> io::Result<()>
-    requires { 240 ≤ length l.now }
-{
-    print!(rt; "{n} ")?;
-    show::entries(rt, l)
-}
-
 fn read(rt: &impl Print, n: u32, l: &[u32], t: Tag) -> io::Result<()>
     requires { 240 ≤ length l.now }
 {
-    begin(rt, n, l)?;
-    show::text(rt, b": read ")?;
-    show::tag(rt, t)?;
-    show::text(rt, b": ")?;
     let found = replica::read_in(l, t);
     let e = found.entry;
-    show::tag(rt, e.tag)?;
-    println!(rt; ", mark {}", found.mark)
+    println!(rt;
+        "{n} {}: read {}: {}, mark {}",
+        Entries(l),
+        Pair(t),
+        Pair(e.tag),
+        found.mark
+    )
 }
 
 fn tidied(rt: &impl Print, n: u32, l: &mut [u32]) -> io::Result<()>
     requires { 240 ≤ length l.old }
 {
-    begin(rt, n, l)?;
+    print!(rt; "{n} {}: tidy: ", Entries(l))?;
     tidy::tidy_in(l);
-    show::text(rt, b": tidy: ")?;
-    show::entries(rt, l)?;
-    show::text(rt, b"\n")
+    println!(rt; "{}", Entries(l))
 }
 
 fn reads(rt: &impl Print) -> io::Result<()> {
@@ -101,12 +92,12 @@ fn comes(rt: &impl Print, n: u32) -> io::Result<()>
     let mut l = [0u32; 240];
     replica::put_in(&mut l, 0, entry(2, tag(0, 0)));
     fill(&mut l, n - 2);
-    print!(rt; "tag {n}")?;
-    if replica::full(&l, write(n)) {
-        show::text(rt, b" at a replica: FULL\n")
+    let word = if replica::full(&l, write(n)) {
+        "FULL"
     } else {
-        show::text(rt, b" at a replica: not FULL\n")
-    }
+        "not FULL"
+    };
+    println!(rt; "tag {n} at a replica: {word}")
 }
 
 pub fn run_full(rt: &impl Print) -> io::Result<()> {

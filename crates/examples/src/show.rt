@@ -1,73 +1,55 @@
-// Numbers, tags, sets and entries as text.
-ghost use Rattle.std.specs.Prelude.{◌≤◌, length};
-
+// Tags, sets and entries as text.
 use sets::Tag;
-use std::io;
-use tables::{Entry, rows};
+use std::fmt;
+use tables::rows;
 
-pub fn text(rt: &impl Print, s: &[u8]) -> io::Result<()> {
-    rt.write_all(s)
-}
+// A tag, as (number,client).
+#[derive(Clone, Copy)]
+pub struct Pair(pub Tag);
 
-pub fn number(rt: &impl Print, n: u32) -> io::Result<()> {
-    rt.print(n)
-}
-
-pub fn tag(rt: &impl Print, t: Tag) -> io::Result<()> {
-    print!(rt; "({},{})", t.number, t.client)
-}
-
-// Party p, where it is in s. `more`: a party stands before it; the answer says so of the next.
-fn party(rt: &impl Print, s: u32, p: u32, more: bool) -> io::Result<bool>
-    requires { (1 ≤ p) × (p ≤ 32) }
-{
-    if !sets::is_in(s, p) {
-        return Ok(more);
-    }
-    if more {
-        text(rt, b",")?;
-    }
-    number(rt, p)?;
-    Ok(true)
-}
-
-pub fn set(rt: &impl Print, s: u32) -> io::Result<()> {
-    text(rt, b"{")?;
-    let mut more = false;
-    for p in 1..=32 {
-        more = party(rt, s, p, more)?;
-    }
-    text(rt, b"}")
-}
-
-fn state(rt: &impl Print, s: u32) -> io::Result<()> {
-    match s {
-        1 => text(rt, b"held "),
-        _ => text(rt, b"secured "),
+impl fmt::Display for Pair {
+    fn fmt<W: fmt::Write>(&self, f: &mut fmt::Formatter<W>) -> fmt::Result {
+        let t = self.0;
+        write!(f, "({},{})", t.number, t.client)
     }
 }
 
-// An entry, where it is not free; `more` as for a party.
-fn entry(rt: &impl Print, e: Entry, more: bool) -> io::Result<bool> {
-    if e.state == 0 {
-        return Ok(more);
+// A set of parties, as {1,3}.
+#[derive(Clone, Copy)]
+pub struct Parties(pub u32);
+
+impl fmt::Display for Parties {
+    fn fmt<W: fmt::Write>(&self, f: &mut fmt::Formatter<W>) -> fmt::Result {
+        f.write_str("{")?;
+        let mut more = false;
+        for p in 1..=32 {
+            if sets::is_in(self.0, p) {
+                let comma = if more { "," } else { "" };
+                write!(f, "{comma}{p}")?;
+                more = true;
+            }
+        }
+        f.write_str("}")
     }
-    if more {
-        text(rt, b", ")?;
-    }
-    state(rt, e.state)?;
-    tag(rt, e.tag)?;
-    Ok(true)
 }
 
-// The entries that are not free, in order.
-pub fn entries(rt: &impl Print, l: &[u32]) -> io::Result<()>
-    requires { 240 ≤ length l.now }
-{
-    let mut more = false;
-    for j in 0..12usize {
-        let at = j * rows::ENTRY_ROW;
-        more = entry(rt, rows::entry_at(&l[at..]), more)?;
+// The entries of a replica that are not free, in order.
+#[derive(Clone, Copy)]
+pub struct Entries<'a>(pub &'a [u32]);
+
+impl<'a> fmt::Display for Entries<'a> {
+    fn fmt<W: fmt::Write>(&self, f: &mut fmt::Formatter<W>) -> fmt::Result {
+        let mut more = false;
+        for row in self.0.chunks_exact(rows::ENTRY_ROW) {
+            let e = rows::entry_at(row);
+            if e.state == 0 {
+                continue;
+            }
+            let comma = if more { ", " } else { "" };
+            let state = if e.state == 1 { "held" } else { "secured" };
+            write!(f, "{comma}{state} {}", Pair(e.tag))?;
+            more = true;
+        }
+        Ok(())
     }
-    Ok(())
 }

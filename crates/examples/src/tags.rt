@@ -1,18 +1,16 @@
 // Examples 1 and 2: how tags compare.
-use crate::show;
-use sets::{Order, Tag};
+use crate::show::Pair;
+use sets::Tag;
+use std::cmp::Ordering;
 use std::io;
 
 fn compared(rt: &impl Print, n: u32, a: Tag, b: Tag) -> io::Result<()> {
-    print!(rt; "{n} ")?;
-    show::tag(rt, a)?;
-    show::text(rt, b" against ")?;
-    show::tag(rt, b)?;
-    match sets::compare(a, b) {
-        Order::Lower => show::text(rt, b": lower\n"),
-        Order::Same => show::text(rt, b": same\n"),
-        Order::Greater => show::text(rt, b": greater\n"),
-    }
+    let word = match sets::compare(a, b) {
+        Ordering::Less => "lower",
+        Ordering::Equal => "same",
+        Ordering::Greater => "greater",
+    };
+    println!(rt; "{n} {} against {}: {word}", Pair(a), Pair(b))
 }
 
 pub fn run(rt: &impl Print) -> io::Result<()> {

@@ -1,5 +1,5 @@
 -- A request of a client's phase is delivered to a party that is up: its reply waits, and nothing else that the operation needs is lost.
-use Rattle.std.specs.Prelude.{if◌then◌else◌}
+use Rattle.std.specs.Prelude.{Some, if◌then◌else◌}
 use mathlib.Core.Path.{◌≡◌, refl, sym, ap, ◌∙◌}
 use mathlib.Core.Bool.{false, not, and-false}
 use mathlib.Core.List.{List, [], ◌∷◌}
@@ -29,7 +29,7 @@ use Rattle.rules.specs.Replica.{read, mark, is_full, replica_after, replica_post
 use Rattle.rules.specs.Client.{awaited}
 use Rattle.rules.proofs.DirectoryViews.{DirectoryView, joins, takes, adds, stays, directory_view}
 use Rattle.machine.specs.Effects.{Change, directory, replica, Effect, changed}
-use Rattle.machine.specs.Calls.{is_down, emptying}
+use Rattle.machine.specs.Calls.{asked, is_down, emptying}
 use Rattle.machine.specs.Deliver.{taken, received, deliver_effect, directory_effect, replica_effect}
 use Rattle.machine.specs.Refusals.{is_overfull}
 use Rattle.runs.proofs.Acts.{Among}
@@ -111,7 +111,7 @@ pub record Replied (B : Machine) (c E p q : ℕ) (w : Client) (N : Machine) : Ty
 
 -- what the message x in slot s does
 abbrev pub effect_on : Machine → ℕ → Message → Effect
-effect_on M s x = if is_down M (receiver_of x.kind) x.receiver then emptying (s ∷ []) 4 no_page else received (receiver_of x.kind) M s x no_page
+effect_on M s x = if asked (λ party. is_down M party x.receiver) (receiver_of x.kind) then emptying (s ∷ []) 4 no_page else received (receiver_of x.kind) M s x no_page
 
 -- server q takes x: its reply goes to client c, it changes no row but its own, and does not fall
 record Serves (M : Machine) (s p c q n top : ℕ) (x : Message) : Type 0 where
@@ -146,7 +146,7 @@ module _ (M : Machine) (s p c q n top : ℕ) (t : Tag) (set spare : ℕ) (page :
   abbrev new_r : Replica
   new_r = record { down = (replica_at M q).down; entries = replica_after (replica_at M q).entries x }
 
-  by_directory : receiver_of (ask_kind p) ≡ ADirectory → directory_post (directory_at M q) x ≡ post y (only c) → is_full (replica_at M q).entries x ≡ false
+  by_directory : receiver_of (ask_kind p) ≡ Some ADirectory → directory_post (directory_at M q) x ≡ post y (only c) → is_full (replica_at M q).entries x ≡ false
       → T (not (is_down M ADirectory q)) → (p ≡ 4 → y.tag.number < top) → Serves M s p c q n top x
   unfolding directory_effect
   by_directory r e f u b =
@@ -169,7 +169,7 @@ module _ (M : Machine) (s p c q n top : ℕ) (t : Tag) (set spare : ℕ) (page :
         others = λ r z u. row_ind (λ (v : Directory). Able p top v (replica_at M r)) no_directory M.directories q r new_d (λ (e : q ≡ r). absurd (z (sym e))) u;
       }
 
-  by_replica : receiver_of (ask_kind p) ≡ AReplica → replica_post M.conf.directories (replica_at M q).entries x ≡ post y (only c) → is_full (replica_at M q).entries x ≡ false
+  by_replica : receiver_of (ask_kind p) ≡ Some AReplica → replica_post M.conf.directories (replica_at M q).entries x ≡ post y (only c) → is_full (replica_at M q).entries x ≡ false
       → T (not (is_down M AReplica q)) → (p ≡ 4 → ⊥) → Serves M s p c q n top x
   unfolding replica_effect
   by_replica r e f u not4 =

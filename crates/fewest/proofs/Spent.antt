@@ -15,9 +15,8 @@ use Rattle.sets.proofs.Laws.{with_in, in_with_old, in_with_new, with_lt, only_lt
 use Rattle.tables.specs.declared.Conf.{Conf}
 use Rattle.tables.specs.declared.Client.{Client}
 use Rattle.tables.specs.declared.Message.{Message}
-use Rattle.tables.specs.declared.Party.{Party}
-use Rattle.tables.specs.declared.Party.TheVariants.{Nobody, AClient, ADirectory, AReplica}
-use Rattle.tables.specs.Kinds.{sender_of, many_of}
+use Rattle.tables.specs.declared.Party.TheVariants.{AClient}
+use Rattle.tables.specs.Kinds.{sender_of}
 use Rattle.tables.specs.Tables.{Page, Machine, no_message, client_at, directory_at, replica_at, slot_at, no_page}
 use Rattle.tables.proofs.All.{All, none, cons, all_map, all_row}
 use Rattle.rules.specs.declared.Outcome.{Outcome}
@@ -28,6 +27,7 @@ use Rattle.rules.proofs.Heard.{heard_keeps, heard_answered}
 use Rattle.rules.proofs.Views.{Timely, Completes, View, v_stale, v_waits, v_1, v_2, v_3, v_4, v_spent, v_5, v_6}
 use Rattle.machine.specs.Effects.{Effect, applied}
 use Rattle.machine.specs.Calls.{Call, down_client}
+use Rattle.machine.proofs.Arrivals.{many_sixteen}
 use Rattle.runs.proofs.Codes.{one_of_lem}
 use Rattle.runs.proofs.Acts.{Acts, reads, writes, empties, directs, stores, hears, gossips, tidies, crashes, begun, answered}
 use Rattle.runs.proofs.Sound.{Sound}
@@ -118,12 +118,6 @@ module _ (M : Machine) (c : ℕ) where
 
 -- ---- a reply at the client
 
-few_parties : {M : Machine} → Sound M → M.conf.directories ≤ 16 → (who : Party) → many_of M.conf who ≤ 16
-few_parties z few Nobody = omega arith
-few_parties z few AClient = omega (arith, (numbers_of_lem z).few_clients)
-few_parties z few ADirectory = few
-few_parties z few AReplica = omega (arith, (numbers_of_lem z).few_replicas)
-
 -- the least that an answer with this code has cost
 abbrev pub price_of : Conf → ℕ → ℕ
 price_of k code = if eqb code 1 then read_price k else if eqb code 2 then write_price k else 0
@@ -150,7 +144,7 @@ module _ (M : Machine) (z : Sound M) (few : M.conf.directories ≤ 16) (v : Inva
           go (no e) = omega arith
 
       sender_few : x.sender ≤ 16
-      sender_few = omega (arith, m.facts.sender, few_parties z few (sender_of x.kind))
+      sender_few = omega (arith, m.facts.sender, many_sixteen (numbers_of_lem z) few (sender_of x.kind))
 
       sent_before : x.sender ∈ g.replied
       unfolding no_message

@@ -1,5 +1,5 @@
 -- A reply that a client waits for is delivered: it waits on, its phase changes and the next requests wait, or the operation ends.
-use Rattle.std.specs.Prelude.{if◌then◌else◌}
+use Rattle.std.specs.Prelude.{Some, if◌then◌else◌}
 use mathlib.Core.Path.{◌≡◌, refl, sym, ap, subst, ◌∙◌}
 use mathlib.Core.Bool.{Bool, true, false, and-false}
 use mathlib.Core.List.{[], ◌∷◌}
@@ -9,8 +9,8 @@ use borrow.Author.Tests.{eq-eqb}
 use lib.Dec.{eqb}
 use lib.ListN.{length}
 use Rattle.sets.specs.declared.Tag.{Tag}
-use Rattle.sets.specs.declared.Order.{Order}
-use Rattle.sets.specs.declared.Order.TheVariants.{Lower, Same, Greater}
+use Rattle.std.specs.declared.cmp.Ordering.{Ordering}
+use Rattle.std.specs.declared.cmp.Ordering.TheVariants.{Less, Equal, Greater}
 use Rattle.sets.specs.Plain.{one_of}
 use Rattle.sets.specs.Tags.{against}
 use Rattle.sets.specs.Sets.{has, size, with, all}
@@ -77,7 +77,7 @@ many_asked {y = y} a few = length_messages y (rw a.to few) ∙ ap size a.to
 
 -- a reply is for a client, never too much for a replica, and no request
 record ReplyKind (p : ℕ) : Type 0 where
-  whose : receiver_of (awaited p) ≡ AClient
+  whose : receiver_of (awaited p) ≡ Some AClient
   free : one_of (awaited p) (10 ∷ 15 ∷ []) ≡ false
   differ : ask_kind p ≡ awaited p → ⊥
 
@@ -126,10 +126,10 @@ heard_tag w x P a b =
     if_ind (λ (y : Client). P y.tag) (eqb w.phase 1) (λ _. by (gathered w (with w.answered x.sender) x.tag x.set) b a a (against x.tag w.tag))
     (λ _. if_ind (λ (y : Client). P y.tag) (eqb w.phase 4) (λ _. by (raised w (with w.answered x.sender) x.tag) b a a (against x.tag w.tag)) (λ _. a))
   where
-    by : (f : Order → Client) → P (f Greater).tag → P (f Same).tag → P (f Lower).tag → (o : Order) → P (f o).tag
+    by : (f : Ordering → Client) → P (f Greater).tag → P (f Equal).tag → P (f Less).tag → (o : Ordering) → P (f o).tag
     by f g s l Greater = g
-    by f g s l Same = s
-    by f g s l Lower = l
+    by f g s l Equal = s
+    by f g s l Less = l
 
 -- ---- the steps
 

@@ -1,4 +1,5 @@
 -- The invariant over a delivery to a client, and over the starts.
+use Rattle.std.specs.Prelude.{Option, Some}
 use mathlib.Core.Path.{◌≡◌, refl, sym, ap, subst, ◌∙◌}
 use mathlib.Core.Bool.{true, not}
 use mathlib.Core.Logic.{⊎_elim}
@@ -7,20 +8,20 @@ use native.Mathlib.Nat.{le_of_eq}
 use lib.Bits.{or_zero_l}
 use lib.Dec.{T, eqb, leb→le, eqb→eq, T_not}
 use Rattle.sets.specs.declared.Tag.{Tag}
-use Rattle.sets.specs.declared.Order.{Order}
-use Rattle.sets.specs.declared.Order.TheVariants.{Lower, Same, Greater}
+use Rattle.std.specs.declared.cmp.Ordering.{Ordering}
+use Rattle.std.specs.declared.cmp.Ordering.TheVariants.{Less, Equal, Greater}
 use Rattle.sets.specs.Tags.{tag, against}
 use Rattle.sets.specs.Sets.{size, join, with}
 use Rattle.sets.specs.Inner.{◌∈◌}
 use Rattle.sets.proofs.Laws.{none_in, with_in, with_lt}
 use Rattle.sets.proofs.Tests.{if_ind}
-use Rattle.sets.proofs.TagOrder.{◌≼◌, ◌≺◌, ≺-≼, ≺_irrefl, first_least, view as compare, is_lower_view, is_same, is_greater}
+use Rattle.sets.proofs.TagOrder.{◌≼◌, ◌≺◌, ≺-≼, ≺_irrefl, first_least, view as compare, is_below, is_same, is_above}
 use Rattle.tables.specs.declared.Conf.{Conf}
 use Rattle.tables.specs.declared.Client.{Client}
 use Rattle.tables.specs.declared.Message.{Message}
 use Rattle.tables.specs.declared.Party.{Party}
 use Rattle.tables.specs.declared.Party.TheVariants.{ADirectory}
-use Rattle.tables.specs.Kinds.{sender_of, many_of}
+use Rattle.tables.specs.Kinds.{sender_of, many_named}
 use Rattle.tables.specs.Phases.{asks_directories}
 use Rattle.tables.specs.Tables.{Page, Machine, no_client, client_at, directory_at}
 use Rattle.tables.proofs.All.{all_row}
@@ -85,9 +86,9 @@ module _ (M : Machine) (x : Message) (k : Timely (client_at M x.receiver) x) whe
         → ClientOk M (gatheredBy w a x.tag x.set (against x.tag w.tag))
     gathers u h a e =
         elim (compare x.tag w.tag) [
-          | is_lower_view q l ↦ rw q (at (lower l h))
+          | is_below q l ↦ rw q (at (lower l h))
           | is_same q l ↦ rw q (at (same l h))
-          | is_greater q l ↦ rw q (at (gathered u))
+          | is_above q l ↦ rw q (at (gathered u))
         ]
       where
         at : {t : Tag} {s : ℕ} → Gathering M t s a → PhaseFact M t s a w.phase
@@ -117,9 +118,9 @@ module _ (M : Machine) (x : Message) (k : Timely (client_at M x.receiver) x) whe
         (λ _ f. f)))))
         (client_ok v x.receiver)
 
-    raises : w.phase ≡ 4 → (a : ℕ) (o : Order) → ClientOk M (raised w a x.tag o)
-    raises e a Lower = subst (PhaseFact M w.tag w.replicas a) (sym e) tt
-    raises e a Same = subst (PhaseFact M w.tag w.replicas a) (sym e) tt
+    raises : w.phase ≡ 4 → (a : ℕ) (o : Ordering) → ClientOk M (raised w a x.tag o)
+    raises e a Less = subst (PhaseFact M w.tag w.replicas a) (sym e) tt
+    raises e a Equal = subst (PhaseFact M w.tag w.replicas a) (sym e) tt
     raises e a Greater = subst (PhaseFact M x.tag w.replicas a) (sym e) tt
 
     pub heard_ok : ClientOk M (heard w x)
@@ -140,12 +141,12 @@ pub heard_phase : {k : Conf} (w : Client) (x : Message) (p : ℕ) → Completes 
 heard_phase w x p c = (heard_keeps w x).phase ∙ c.phase
 
 -- directories answer from within their range
-pub asked_in : (M : Machine) → Sound M → (x : Message) → MessageFacts M.conf x → Among M.conf.clients x.receiver → (p : ℕ) → asks_directories p ≡ true → sender_of (awaited p) ≡ ADirectory
+pub asked_in : (M : Machine) → Sound M → (x : Message) → MessageFacts M.conf x → Among M.conf.clients x.receiver → (p : ℕ) → asks_directories p ≡ true → sender_of (awaited p) ≡ Some ADirectory
     → Completes M.conf (client_at M x.receiver) x p → (heard (client_at M x.receiver) x).answered < 2 ^ M.conf.directories
 asked_in M z x f a p q d c =
     rw (heard_answered (client_at M x.receiver) x)
     (with_lt M.conf.directories (client_at M x.receiver).answered x.sender ((client_in M z x.receiver a).asked (rw c.phase q))
-    (subst (λ (s : Party). x.sender ≤ many_of M.conf s) (ap sender_of (c.timely.kind ∙ ap awaited c.phase) ∙ d) f.sender))
+    (subst (λ (s : Option Party). x.sender ≤ many_named M.conf s) (ap sender_of (c.timely.kind ∙ ap awaited c.phase) ∙ d) f.sender))
 
 module _ (M : Machine) (z : Sound M) (v : Invariant M) (x : Message) (g : MessageOk M x) (f : MessageFacts M.conf x) (a : Among M.conf.clients x.receiver) where
   abbrev own : ℕ
@@ -160,7 +161,7 @@ module _ (M : Machine) (z : Sound M) (v : Invariant M) (x : Message) (g : Messag
   phase_ok : (p : ℕ) → Completes M.conf old x p → PhaseFact M u.tag u.replicas u.answered p
   phase_ok p c = subst (PhaseFact M u.tag u.replicas u.answered) (heard_phase old x p c) (heard_ok M x c.timely v g)
 
-  reached_known : (p : ℕ) → asks_directories p ≡ true → sender_of (awaited p) ≡ ADirectory → (c : Completes M.conf old x p) → T (enough_to_write M.conf u.answered)
+  reached_known : (p : ℕ) → asks_directories p ≡ true → sender_of (awaited p) ≡ Some ADirectory → (c : Completes M.conf old x p) → T (enough_to_write M.conf u.answered)
       → Reached M u.tag u.answered → Known M u.tag
   reached_known p q d c e r = record { quorum = u.answered; inside = asked_in M z x f a p q d c; enough = e; reached = r }
 

@@ -1,4 +1,5 @@
 -- THE INVARIANT IS KEPT by every accepted call.
+use Rattle.std.specs.Prelude.{Some}
 use mathlib.Core.Path.{◌≡◌, refl, sym, ap, subst, ◌∙◌}
 use Prim.Native.Nat.{ℕ, ◌<◌}
 use native.Mathlib.Nat.{le_refl, le_of_eq}
@@ -8,7 +9,7 @@ use Rattle.sets.proofs.TagOrder.{≼_refl}
 use Rattle.tables.specs.declared.Client.{Client}
 use Rattle.tables.specs.declared.Message.{Message}
 use Rattle.tables.specs.declared.Party.{Party}
-use Rattle.tables.specs.declared.Party.TheVariants.{Nobody, AClient, ADirectory, AReplica}
+use Rattle.tables.specs.declared.Party.TheVariants.{AClient, ADirectory, AReplica}
 use Rattle.tables.specs.Kinds.{many_of}
 use Rattle.tables.specs.Tables.{Replica, Machine, no_page, no_message, client_at, directory_at, replica_at, slot_at}
 use Rattle.tables.proofs.All.{all_row}
@@ -70,8 +71,7 @@ moves_down w =
     record { number = le_refl w.number; back = λ p n t s k h. record { phase = h.phase; number = h.number; tag = h.tag } }
 
 module _ (M : Machine) where
-  downs : (who : Party) (p : ℕ) → Moved M (downed M who p)
-  downs Nobody p = tt
+  downs : (who : Party) (p : ℕ) → Moved M (downed M (Some who) p)
   downs AClient p = moves_down (client_at M p)
   downs ADirectory p = ≼_refl (directory_at M p).tag
   downs AReplica p = λ t k. k
@@ -98,8 +98,7 @@ unfolding no_message
 message_ok v s = all_row no_message s tt v.messages
 
 module _ (M : Machine) (z : Sound M) (v : Invariant M) where
-  crash_ok : (who : Party) (p : ℕ) → Among (many_of M.conf who) p → RowOk M (downed M who p)
-  crash_ok Nobody p a = tt
+  crash_ok : (who : Party) (p : ℕ) → Among (many_of M.conf who) p → RowOk M (downed M (Some who) p)
   crash_ok AClient p a = client_ok v p
   crash_ok ADirectory p a = v.directories p a.low a.high
   crash_ok AReplica p a = replica_ok v p

@@ -1,4 +1,5 @@
 -- Pages follow tags: whatever holds of each tag with its page, where a write chooses it, holds of all that the machine carries.
+use Rattle.std.specs.Prelude.{Some}
 use mathlib.Core.Path.{◌≡◌, refl, sym, ap, subst}
 use mathlib.Core.Bool.{not}
 use mathlib.Core.List.{List, [], ◌∷◌}
@@ -13,7 +14,7 @@ use Rattle.tables.specs.declared.Directory.{Directory}
 use Rattle.tables.specs.declared.Entry.{Entry}
 use Rattle.tables.specs.declared.Message.{Message}
 use Rattle.tables.specs.declared.Party.{Party}
-use Rattle.tables.specs.declared.Party.TheVariants.{Nobody, AClient, ADirectory, AReplica}
+use Rattle.tables.specs.declared.Party.TheVariants.{AClient, ADirectory, AReplica}
 use Rattle.tables.specs.Kinds.{carries_page}
 use Rattle.tables.specs.Rows.{some?}
 use Rattle.tables.specs.Tables.{Page, Replica, Machine, no_entry, no_replica, no_message, no_client, client_at, directory_at, replica_at, slot_at, with_slots, is_free, is_secured}
@@ -152,8 +153,7 @@ module _ (H : Tag → Page → Type 0) where
     rows_in (replica r w) ss h k ms = record { clients = v.clients; replicas = all_with_row r w k v.replicas; messages = ms }
     rows_in (anew k page) ss h _ ms = absurd h
 
-    downs_in : (who : Party) (p : ℕ) → StoreIn (downed M who p)
-    downs_in Nobody p = tt
+    downs_in : (who : Party) (p : ℕ) → StoreIn (downed M (Some who) p)
     downs_in AClient p = tt
     downs_in ADirectory p = tt
     downs_in AReplica p = replica_row_lem p

@@ -1,11 +1,12 @@
 -- The clients and the slots after an effect: what holds of each.
+use Rattle.std.specs.Prelude.{Some}
 use mathlib.Core.Path.{subst}
 use Prim.Native.Nat.{ℕ}
 use Rattle.sets.specs.Inner.{◌∈◌}
 use Rattle.tables.specs.declared.Client.{Client}
 use Rattle.tables.specs.declared.Message.{Message}
 use Rattle.tables.specs.declared.Party.{Party}
-use Rattle.tables.specs.declared.Party.TheVariants.{Nobody, AClient, ADirectory, AReplica}
+use Rattle.tables.specs.declared.Party.TheVariants.{AClient, ADirectory, AReplica}
 use Rattle.tables.specs.Tables.{Machine, no_client, no_message, client_at}
 use Rattle.tables.proofs.All.{All, all_replicate}
 use Rattle.mail.specs.declared.Post.{Post}
@@ -32,8 +33,7 @@ of_map f (replica r w) h = tt
 of_map f (anew k page) h = absurd h
 
 -- a crash changes the row of a client only so
-pub of_downed : (Q : ℕ → Client → Type 0) (M : Machine) (who : Party) (p : ℕ) → Q p (down_client (client_at M p)) → OfClient Q (downed M who p)
-of_downed Q M Nobody p h = tt
+pub of_downed : (Q : ℕ → Client → Type 0) (M : Machine) (who : Party) (p : ℕ) → Q p (down_client (client_at M p)) → OfClient Q (downed M (Some who) p)
 of_downed Q M AClient p h = h
 of_downed Q M ADirectory p h = tt
 of_downed Q M AReplica p h = tt

@@ -1,4 +1,5 @@
 -- THE LAYERED MACHINE KEEPS TO THE METHOD: one walk through what a call may do gives each way its case of `Does`.
+use Rattle.std.specs.Prelude.{Some}
 use mathlib.Core.Path.{◌≡◌, refl, sym, ap, subst, ◌∙◌}
 use mathlib.Core.Bool.{true, not}
 use mathlib.Core.List.{[], ◌∷◌}
@@ -134,7 +135,7 @@ module _ (M : Machine) (G : Good M) where
     track_heard F p i t = subst (TrackAt M c F y.number y.answered y.tag) (heard_phase w x p i) (hear_row M s F i.timely t)
 
     -- enough directories have told of F or more
-    told : (F : Tag) (p : ℕ) → Completes M.conf w x p → asks_directories p ≡ true → sender_of (awaited p) ≡ ADirectory → T (enough_to_read M.conf y.answered)
+    told : (F : Tag) (p : ℕ) → Completes M.conf w x p → asks_directories p ≡ true → sender_of (awaited p) ≡ Some ADirectory → T (enough_to_read M.conf y.answered)
         → Asking M c y.number y.answered y.tag F → F ≼ y.tag
     told F p i q d e t =
         asked M c y.number y.answered y.tag F t (numbers_of_lem G.sound).quorums (asked_in M G.sound x m.facts m.receiver p q d i) e

@@ -1,6 +1,5 @@
 -- The ways through a call that is no accepted set-up: it is refused and shows nothing, or it acts.
-use Rattle.std.specs.Prelude.{if◌then◌else◌}
-use mathlib.Core.Option.{Option, none, some}
+use Rattle.std.specs.Prelude.{Option, None, Some, if◌then◌else◌}
 use mathlib.Core.Path.{◌≡◌, refl, sym, subst}
 use Prim.Native.Nat.{ℕ, ◌≤◌}
 use native.Mathlib.Omega.{arith}
@@ -43,9 +42,9 @@ no_giving_up c a p d =
     P e = e ≡ gives_up d → ⊥
 
     begun : (o : Option Start) → P (beginning o)
-    begun none e = clash (cc)
-    begun (some (a_read c)) e = clash (cc)
-    begun (some (a_write c page)) e = clash (cc)
+    begun None e = clash (cc)
+    begun (Some (a_read c)) e = clash (cc)
+    begun (Some (a_write c page)) e = clash (cc)
 
 -- ---- the ways
 

@@ -1,6 +1,5 @@
 -- What a call shows its caller, by its answer; and the calls on a lent buffer, as `order` reads them.
-use Rattle.std.specs.Prelude.{ℕ, eqb, List, if◌then◌else◌}
-use Rattle.sets.specs.Plain.{Option, none, some}
+use Rattle.std.specs.Prelude.{ℕ, eqb, List, Option, None, Some, if◌then◌else◌}
 use Rattle.tables.specs.declared.Layout.{Layout}
 use Rattle.tables.specs.Tables.{Page}
 use Rattle.rules.specs.declared.Answer.{Answer}
@@ -10,9 +9,9 @@ use Rattle.runs.specs.Runs.{Renews}
 use Rattle.order.specs.Run.{Event, read_begins, write_begins, read_ends, write_ends, write_spent, nothing, Calls}
 
 abbrev pub beginning : Option Start → Event
-beginning none = nothing
-beginning (some (a_read c)) = read_begins c
-beginning (some (a_write c page)) = write_begins c page
+beginning None = nothing
+beginning (Some (a_read c)) = read_begins c
+beginning (Some (a_write c page)) = write_begins c page
 
 -- 0 DONE of a start, 1 READ ENDED with the page filled, 2 WRITE ENDED, 3 SPENT; a is the answer, p what the page to fill holds afterwards
 unfoldable pub event_of : Call → Answer → Page → Event

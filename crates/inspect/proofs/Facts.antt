@@ -1,7 +1,7 @@
 -- What a good machine says: the conditions of Good, taken out; of a message those that later steps use.
-use Rattle.std.specs.Prelude.{if◌then◌else◌}
+use Rattle.std.specs.Prelude.{Option, if◌then◌else◌}
 use mathlib.Core.Bool.{Bool, true, false, and-false, or-false, false≢true}
-use mathlib.Core.Path.{◌≡◌, refl, subst}
+use mathlib.Core.Path.{◌≡◌, refl, sym, subst, ◌∙◌}
 use Prim.Native.Nat.{ℕ, suc, ◌+◌, ◌*◌, ◌%◌, ◌^◌, ◌≤◌, ◌<◌}
 use native.Mathlib.Omega.{arith}
 use borrow.Author.Tests.{eq-eqb, ne_eqb, eqb-true, leb-true, leb-false, ltb-true, ltb-false, lt-leb, le-leb, lt-ltb}
@@ -15,16 +15,17 @@ use Rattle.tables.specs.declared.Client.{Client}
 use Rattle.tables.specs.declared.Directory.{Directory}
 use Rattle.tables.specs.declared.Entry.{Entry}
 use Rattle.tables.specs.declared.Message.{Message}
+use Rattle.tables.specs.declared.Party.{Party}
 use Rattle.tables.specs.Layouts.{in_columns}
-use Rattle.tables.specs.Kinds.{sender_of, receiver_of, many_of, carries_set, carries_mark, carries_tag, carries_number}
+use Rattle.tables.specs.Kinds.{sender_of, receiver_of, many_named, carries_set, carries_mark, carries_tag, carries_number}
 use Rattle.tables.specs.Phases.{asks_directories, asks_replicas, uses_replica_set, uses_tag, uses_page, rounds_left}
 use Rattle.tables.specs.Rows.{some?}
 use Rattle.tables.specs.Tables.{Replica, no_entry, is_free, is_secured}
 use Rattle.tables.specs.Words.{entry_words}
 use Rattle.tables.proofs.Quorums.{Counts, Columns, Quorums, counts, columns}
-use Rattle.inspect.specs.Good.{between, zeros, field, each_row, good_counts, good_columns, good_numbers, good_tag, zero_tag, good_set, good_mark, good_set_word, good_answered, good_client, good_directory, good_entry, tags_once, good_replica, good_message}
+use Rattle.inspect.specs.Good.{between, zeros, field, each_row, good_counts, good_columns, good_numbers, good_tag, zero_tag, good_set, good_mark, good_set_word, good_answered, good_client, good_directory, good_entry, tags_once, good_replica, is_named_party, good_message}
 use Rattle.inspect.specs.Inner.{Few}
-use Rattle.inspect.proofs.Tests.{le_by, eq_by, field_any, field_used, field_zero}
+use Rattle.inspect.proofs.Tests.{named_between, and_l, and_r, le_by, eq_by, field_any, field_used, field_zero}
 use Rattle.inspect.proofs.Each.{each_at}
 
 -- ---- the numbers
@@ -256,13 +257,18 @@ replica_facts k r g =
 pub record MessageFacts (k : Conf) (x : Message) : Type 0 where
   pub kind : x.kind ≤ 15
   pub some_sender : 1 ≤ x.sender
-  pub sender : x.sender ≤ many_of k (sender_of x.kind)
+  pub sender : x.sender ≤ many_named k (sender_of x.kind)
   pub some_receiver : 1 ≤ x.receiver
-  pub receiver : x.receiver ≤ many_of k (receiver_of x.kind)
+  pub receiver : x.receiver ≤ many_named k (receiver_of x.kind)
   pub tag : TagFacts k x.tag
   pub set : x.set < 2 ^ k.replicas
   pub numbered : carries_number x.kind ≡ true → 1 ≤ x.number
   pub number : x.number ≤ k.top
+
+named_facts : (k : Conf) (who : Option Party) (p : ℕ) → is_named_party k who p ≡ true → (1 ≤ p) × (p ≤ many_named k who)
+named_facts k who p g =
+    let b : between 1 (many_named k who) p ≡ true = sym (named_between k who p) ∙ g in
+    (leb-true 1 p (and_l (leb 1 p) (leb p (many_named k who)) b), leb-true p (many_named k who) (and_r (leb 1 p) (leb p (many_named k who)) b))
 
 module _ (k : Conf) (x : Message) (g : good_message k x ≡ true) where
   message_tag : field (carries_tag x.kind) (good_tag k x.tag) (zero_tag x.tag) ≡ true
@@ -284,13 +290,15 @@ module _ (k : Conf) (x : Message) (g : good_message k x ≡ true) where
       (λ f. simp (f, ne_eqb x.number 0 (λ (z : x.number ≡ 0). omega (arith, leb-false x.number k.top f)), and-false))
       message_number
 
-  some_sender : 1 ≤ x.sender
+  sender_lem : (1 ≤ x.sender) × (x.sender ≤ many_named k (sender_of x.kind))
   unfolding good_message
-  some_sender = le_by 1 x.sender (good_message k x) (λ f. simp (f, and-false)) g
+  sender_lem =
+      named_facts k (sender_of x.kind) x.sender (passes_by (is_named_party k (sender_of x.kind) x.sender) (good_message k x) (λ f. simp (f, and-false)) g)
 
-  sender_in : x.sender ≤ many_of k (sender_of x.kind)
+  receiver_lem : (1 ≤ x.receiver) × (x.receiver ≤ many_named k (receiver_of x.kind))
   unfolding good_message
-  sender_in = le_by x.sender (many_of k (sender_of x.kind)) (good_message k x) (λ f. simp (f, and-false)) g
+  receiver_lem =
+      named_facts k (receiver_of x.kind) x.receiver (passes_by (is_named_party k (receiver_of x.kind) x.receiver) (good_message k x) (λ f. simp (f, and-false)) g)
 
   -- a mark comes from a replica: there is one, so that a mark is in range as a set is
   unset : field (carries_mark x.kind) (good_mark x.set) (eqb x.set 0) ≡ true → good_set k.replicas x.set ≡ true
@@ -299,8 +307,8 @@ module _ (k : Conf) (x : Message) (g : good_message k x ≡ true) where
     where
       go : (b : Bool) → carries_mark x.kind ≡ b → field b (good_mark x.set) (eqb x.set 0) ≡ true → good_set k.replicas x.set ≡ true
       go true e h =
-          let r : x.sender ≤ k.replicas = subst (λ (n : ℕ). x.sender ≤ many_of k (sender_of n)) (eqb-true x.kind 12 e) sender_in in
-          let two : 2 ^ 1 ≤ 2 ^ k.replicas = pow_mono {i = 1} {j = k.replicas} (omega (arith, some_sender)) in
+          let r : x.sender ≤ k.replicas = subst (λ (n : ℕ). x.sender ≤ many_named k (sender_of n)) (eqb-true x.kind 12 e) sender_lem.1 in
+          let two : 2 ^ 1 ≤ 2 ^ k.replicas = pow_mono {i = 1} {j = k.replicas} (omega (arith, sender_lem.0)) in
           lt-ltb x.set (2 ^ k.replicas) (omega (arith, leb-true x.set 1 (rw (or-false (good_mark x.set)) at h)))
       go false e h = lt-ltb x.set (2 ^ k.replicas) (omega (arith, eqb-true x.set 0 h, pow_pos k.replicas))
 
@@ -309,10 +317,10 @@ module _ (k : Conf) (x : Message) (g : good_message k x ≡ true) where
   message_facts =
       record {
         kind = le_by x.kind 15 (good_message k x) (λ f. simp f) g;
-        some_sender = some_sender;
-        sender = sender_in;
-        some_receiver = le_by 1 x.receiver (good_message k x) (λ f. simp (f, and-false)) g;
-        receiver = le_by x.receiver (many_of k (receiver_of x.kind)) (good_message k x) (λ f. simp (f, and-false)) g;
+        some_sender = sender_lem.0;
+        sender = sender_lem.1;
+        some_receiver = receiver_lem.0;
+        receiver = receiver_lem.1;
         tag = tag_in k (carries_tag x.kind) x.tag message_tag;
         set = ltb-true _ _ (field_any (carries_set x.kind) (good_set k.replicas x.set) _ unset message_set);
         numbered = λ u. le_by 1 x.number (between 1 k.top x.number) (λ f. simp f) (field_used _ _ _ u message_number);

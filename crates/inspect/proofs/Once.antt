@@ -1,22 +1,21 @@
 -- No tag stands in two entries: said entry by entry, and of each pair of entries.
 use Rattle.std.specs.Prelude.{if◌then◌else◌}
-use mathlib.Core.Bool.{Bool, true, false, not, ◌&&◌, ◌||◌, and-false, and-true, false≢true}
+use mathlib.Core.Bool.{Bool, true, false, not, ◌&&◌, ◌||◌, and-false, and-true, and_assoc, false≢true}
 use mathlib.Core.List.{List, [], ◌∷◌, ◌++◌, append-nil, append_assoc}
 use mathlib.Core.Path.{◌≡◌, refl, sym, ap, ◌∙◌}
-use Prim.Native.Nat.{ℕ, zero, suc, ◌+◌, ◌≤◌, ◌<◌, zero-le, suc-le-suc}
+use Prim.Native.Nat.{ℕ, zero, suc, ◌<◌, zero-le, suc-le-suc}
 use native.Mathlib.Nat.{not-suc-le-zero, le_of_suc-le-suc}
-use native.Mathlib.Numerals.{add-one}
 use borrow.Author.Tests.{eq-eqb, ne_eqb, eqb-true, eqb-false, not-true}
 use lib.Dec.{eqb}
-use lib.ListN.{length, get_or, take, drop, take-append-drop}
-use lib.Seq.{take-suc, take_all}
+use lib.ListN.{length, get_or}
 use Rattle.sets.specs.Tags.{same}
 use Rattle.sets.specs.declared.Tag.{Tag}
+use Rattle.tables.specs.declared.Conf.{Conf}
 use Rattle.tables.specs.declared.Entry.{Entry}
 use Rattle.tables.specs.Rows.{some?}
 use Rattle.tables.specs.Tables.{no_entry, is_free, has_tag}
-use Rattle.inspect.specs.Good.{tags_once}
-use Rattle.inspect.specs.Inner.{fresh_at}
+use Rattle.inspect.specs.Good.{each_row, good_entry, tags_once}
+use Rattle.inspect.specs.Inner.{good_entries, fresh_after, good_after}
 use Rattle.inspect.proofs.Tests.{and_l, and_r}
 
 eqb_sym : (a b : ℕ) → eqb a b ≡ eqb b a
@@ -64,25 +63,24 @@ once_snoc (x ∷ xs) e =
     rw (tags_once, some_snoc (has_tag x.tag) xs e, once_snoc xs e, same_sym x.tag e.tag)
     (apart (is_free x) (is_free e) (same e.tag x.tag) (some? (has_tag x.tag) xs) (some? (has_tag e.tag) xs) (tags_once xs))
 
--- a tag that stands twice stands twice in a longer list
-twice_stays : (xs ys : List Entry) → tags_once xs ≡ false → tags_once (xs ++ ys) ≡ false
-twice_stays xs [] h = rw append-nil h
-twice_stays xs (y ∷ ys) h = ap tags_once (sym (append_assoc xs (y ∷ []) ys)) ∙ twice_stays (xs ++ y ∷ []) ys (once_snoc xs y ∙ rw h)
+-- ---- the test of all entries: good as far as the entry before, and with one that is not good never good again
 
--- the first j entries have their tags once
-module _ (es : List Entry) (j : ℕ) (passed : tags_once (take j es) ≡ true) where
-  turn : j < length es → tags_once (take (j + 1) es) ≡ fresh_at es j
-  unfolding fresh_at
-  turn h = rw (add-one, take-suc es j no_entry h) (once_snoc (take j es) (get_or es j no_entry) ∙ rw passed)
+each_snoc : {A : Type 0} (p : A → Bool) (n : ℕ) (xs : List A) (x : A) → each_row (λ i. p) n (xs ++ x ∷ []) ≡ each_row (λ i. p) n xs && p x
+each_snoc p n [] x = and-true (p x)
+each_snoc p n (y ∷ xs) x = rw (each_snoc p (suc n) xs x, and_assoc)
 
-  pub once_more : j < length es → fresh_at es j ≡ true → tags_once (take (j + 1) es) ≡ true
-  once_more h e = turn h ∙ e
+regroup : (a g o f : Bool) → (a && g) && (o && f) ≡ (a && o) && (g && f)
+regroup true true o f = refl
+regroup true false o f = sym (and-false o)
+regroup false g o f = refl
 
-  pub once_out : j < length es → fresh_at es j ≡ false → tags_once es ≡ false
-  once_out h e = ap tags_once (sym (take-append-drop (j + 1) es)) ∙ twice_stays (take (j + 1) es) (drop (j + 1) es) (turn h ∙ e)
+pub good_snoc : (k : Conf) (es : List Entry) (e : Entry) → good_entries k (es ++ e ∷ []) ≡ good_entries k es && good_after k es e
+unfolding good_entries good_after fresh_after
+good_snoc k es e = rw (each_snoc (good_entry k) 1 es e, once_snoc es e) (regroup (each_row (λ i. good_entry k) 1 es) (good_entry k e) (tags_once es) _)
 
-  pub once_end : length es ≤ j → tags_once es ≡ true
-  once_end h = rw (take_all j es h) at passed
+pub bad_stays : (k : Conf) (xs ys : List Entry) → good_entries k xs ≡ false → good_entries k (xs ++ ys) ≡ false
+bad_stays k xs [] h = rw append-nil h
+bad_stays k xs (y ∷ ys) h = ap (good_entries k) (sym (append_assoc xs (y ∷ []) ys)) ∙ bad_stays k (xs ++ y ∷ []) ys (good_snoc k xs y ∙ rw h)
 
 -- ---- by pairs: of two entries in use, the later has not the tag of the earlier
 

@@ -1,17 +1,20 @@
 -- Tests and their outcomes: a conjunct of a test that passes, and words joined by `|`.
-use mathlib.Core.Bool.{Bool, true, false, ◌&&◌, and-true, and-false, and_assoc}
+use Rattle.std.specs.Prelude.{Option, None, Some}
+use mathlib.Core.Bool.{Bool, true, false, ◌&&◌, and-false, and_assoc}
 use mathlib.Core.List.{List, [], ◌∷◌, ◌++◌}
 use mathlib.Core.Path.{◌≡◌, refl, sym, ap, ◌∙◌}
-use Prim.Native.Nat.{ℕ, ◌+◌, ◌≤◌, ◌<◌}
-use native.Mathlib.Numerals.{add-one}
+use Prim.Native.Nat.{ℕ, zero, suc, ◌+◌, ◌≤◌}
 use native.Mathlib.Omega.{arith}
-use borrow.Author.Tests.{eq-eqb, ne_eqb, eqb-true, eqb-false, leb-true}
+use borrow.Author.Tests.{eq-eqb, ne_eqb, eqb-true, eqb-false, leb-true, lt-leb}
 use lib.Bits.{bit_or, or_add_and, and_le_l, and_le_r}
 use lib.Dec.{leb, eqb}
-use lib.ListN.{length, get_or, take, drop, drop_of_length-le}
-use lib.Seq.{drop-cons, take-add, take_all}
+use lib.ListN.{length, take, drop}
+use lib.Seq.{take-add, take_all}
 use Rattle.sets.proofs.Tests.{passes_by}
-use Rattle.inspect.specs.Good.{zeros, field}
+use Rattle.tables.specs.declared.Conf.{Conf}
+use Rattle.tables.specs.declared.Party.{Party}
+use Rattle.tables.specs.Kinds.{many_named}
+use Rattle.inspect.specs.Good.{between, zeros, field, is_named_party}
 
 pub and_l : (a b : Bool) → a && b ≡ true → a ≡ true
 and_l a b e = passes_by a (a && b) (λ f. rw f) e
@@ -37,6 +40,12 @@ field_any false false is_zero h e = h e
 pub field_zero : (used in_range is_zero : Bool) → used ≡ false → field used in_range is_zero ≡ true → is_zero ≡ true
 field_zero used in_range is_zero u e = passes_by is_zero (field used in_range is_zero) (λ f. simp (f, u)) e
 
+-- a party of the kind that a number names is one of so many: of none, where it names none
+pub named_between : (k : Conf) (who : Option Party) (p : ℕ) → is_named_party k who p ≡ between 1 (many_named k who) p
+named_between k None zero = refl
+named_between k None (suc p) = rw (lt-leb (suc p) 0 (omega arith), and-false)
+named_between k (Some who) p = refl
+
 pub eqb_or : (a b : ℕ) → eqb (bit_or a b) 0 ≡ eqb a 0 && eqb b 0
 eqb_or a b = go (eqb a 0) (eqb b 0) refl refl
   where
@@ -44,17 +53,6 @@ eqb_or a b = go (eqb a 0) (eqb b 0) refl refl
     go true true e f = eq-eqb (bit_or a b) 0 (omega (arith, or_add_and a b, eqb-true a 0 e, eqb-true b 0 f))
     go true false e f = ne_eqb (bit_or a b) 0 (λ (z : bit_or a b ≡ 0). eqb-false b 0 f (omega (arith, or_add_and a b, and_le_l a b)))
     go false q e f = ne_eqb (bit_or a b) 0 (λ (z : bit_or a b ≡ 0). eqb-false a 0 e (omega (arith, or_add_and a b, and_le_r a b)))
-
--- ---- the words passed are joined, and the rest are to come
-
-module _ (s : List ℕ) (any i : ℕ) (passed : eqb any 0 && zeros (drop i s) ≡ zeros s) where
-  pub zeros_more : i < length s → eqb (bit_or any (get_or s i 0)) 0 && zeros (drop (i + 1) s) ≡ zeros s
-  unfolding zeros
-  zeros_more h = rw (eqb_or, add-one, and_assoc) (rw (drop-cons s i 0 h) at passed)
-
-  pub zeros_end : length s ≤ i → eqb any 0 ≡ zeros s
-  unfolding zeros
-  zeros_end h = sym (and-true _) ∙ (rw (drop_of_length-le s h) at passed)
 
 zeros_append : (xs ys : List ℕ) → zeros (xs ++ ys) ≡ zeros xs && zeros ys
 unfolding zeros
@@ -64,14 +62,3 @@ zeros_append (n ∷ xs) ys = rw (zeros_append xs ys, and_assoc)
 -- a row of n + k words is zero where its first n and its last k are
 pub zeros_parts : (n k : ℕ) (l : List ℕ) → length l ≡ n + k → zeros (take n l) && zeros (take k (drop n l)) ≡ zeros l
 zeros_parts n k l wide = sym (zeros_append (take n l) (take k (drop n l))) ∙ ap zeros (sym (take-add n k l) ∙ take_all (n + k) l (omega arith))
-
--- a row of n words is zero where the words written from it are
-pub own_words : (n : ℕ) (l w : List ℕ) → length l ≡ n → (n ≤ length l → w ≡ take n l) → zeros l ≡ zeros w
-own_words n l w wide h = rw (h (omega arith), take_all n l (omega arith))
-
--- the two ways out of `x && y`
-pub and_stops : (x y : Bool) → x ≡ false → x ≡ x && y
-and_stops x y h = rw h
-
-pub and_goes : (x y : Bool) → x ≡ true → y ≡ x && y
-and_goes x y h = rw h

@@ -1,7 +1,7 @@
 -- A row within the limits of its kind or phase is a good row.
 use Rattle.std.specs.Prelude.{if◌then◌else◌}
 use mathlib.Core.Bool.{Bool, true, false, not, ◌&&◌, ◌||◌, false≢true, and-true, and-false, and_comm, and_assoc, or-true, or-false}
-use mathlib.Core.List.{List, []}
+use mathlib.Core.List.{List}
 use mathlib.Core.Path.{◌≡◌, refl, sym, ◌∙◌}
 use Prim.Native.Nat.{ℕ, zero, suc, ◌+◌, ◌-◌, ◌^◌, ◌≤◌, ◌<◌}
 use native.Mathlib.Nat.{zero-add, add-zero, add-suc, suc-add, not-suc-le-zero, le_of_suc-le-suc}
@@ -15,11 +15,12 @@ use Rattle.sets.proofs.Tests.{T-ext}
 use Rattle.tables.specs.declared.Conf.{Conf}
 use Rattle.tables.specs.declared.Client.{Client}
 use Rattle.tables.specs.declared.Message.{Message}
-use Rattle.tables.specs.Kinds.{carries_set, carries_mark, carries_tag, carries_page, carries_number}
+use Rattle.tables.specs.Kinds.{sender_of, receiver_of, carries_set, carries_mark, carries_tag, carries_page, carries_number}
 use Rattle.tables.specs.Phases.{is_idle, uses_tag, asks_directories, asks_replicas, uses_replica_set, uses_page, rounds_left}
 use Rattle.inspect.specs.declared.limits.Limits.{Limits}
 use Rattle.inspect.specs.Good.{between, zeros, field, good_tag, zero_tag, good_set, good_mark, good_client, good_message, tag_within}
 use Rattle.inspect.specs.Inner.{limit, kind_limits, phase_limits, limits_words, limits_of, limits_table, client_within, message_within}
+use Rattle.inspect.proofs.Tests.{named_between}
 
 -- ---- tests
 
@@ -105,6 +106,8 @@ unfolding kind_limits good_message
 message_within_lem k x p e fits h =
     rw (
       le-leb x.kind 15 h,
+      named_between k (sender_of x.kind) x.sender,
+      named_between k (receiver_of x.kind) x.receiver,
       tag_within_lem (carries_tag x.kind) k x.tag,
       word_within (carries_set x.kind) (carries_mark x.kind) k.replicas x.set,
       number_within (carries_number x.kind) k.top x.number,
@@ -137,13 +140,13 @@ client_within_lem k w p e fits h =
 
 -- ---- tables
 
-row_from : (f : ℕ → Limits) (a n i : ℕ) → i < n → get_or (limits_table f a n) i [] ≡ limits_words (f (a + i))
+row_from : (f : ℕ → Limits) (a n i : ℕ) (d : List ℕ) → i < n → get_or (limits_table f a n) i d ≡ limits_words (f (a + i))
 unfolding limits_table
-row_from f a zero i h = absurd (not-suc-le-zero h)
-row_from f a (suc n) zero h = rw (add-zero a)
-row_from f a (suc n) (suc i) h = rw (add-suc, ← suc-add) (row_from f (suc a) n i (le_of_suc-le-suc h))
+row_from f a zero i d h = absurd (not-suc-le-zero h)
+row_from f a (suc n) zero d h = rw (add-zero a)
+row_from f a (suc n) (suc i) d h = rw (add-suc, ← suc-add) (row_from f (suc a) n i d (le_of_suc-le-suc h))
 
 -- row i of a table is the limits of kind or phase i
-pub limits_at : (f : ℕ → Limits) (n i : ℕ) → i < n → limits_of (get_or (limits_table f 0 n) i []) ≡ f i
+pub limits_at : (f : ℕ → Limits) (n i : ℕ) (d : List ℕ) → i < n → limits_of (get_or (limits_table f 0 n) i d) ≡ f i
 unfolding limits_of limits_words
-limits_at f n i h = rw (row_from f 0 n i h, zero-add i)
+limits_at f n i d h = rw (row_from f 0 n i d h, zero-add i)

@@ -1,6 +1,6 @@
 -- "A bad machine is one where .. Nothing else is bad": `good` is true where the machine is not bad, and false where it is.
 -- Each line of a conjunction is one of the paper's conditions.
-use Rattle.std.specs.Prelude.{Bool, true, not, ◌&&◌, ◌||◌, ℕ, suc, ◌+◌, ◌*◌, ◌%◌, ◌^◌, leb, ltb, eqb, List, [], ◌∷◌, length, if◌then◌else◌}
+use Rattle.std.specs.Prelude.{Bool, true, false, not, ◌&&◌, ◌||◌, ℕ, suc, ◌+◌, ◌*◌, ◌%◌, ◌^◌, leb, ltb, eqb, List, [], ◌∷◌, length, Option, None, Some, if◌then◌else◌}
 use Rattle.sets.specs.declared.Tag.{Tag}
 use Rattle.tables.specs.declared.Layout.{Layout}
 use Rattle.tables.specs.declared.Conf.{Conf}
@@ -133,13 +133,18 @@ good_replica k r =
 
 -- a party of that kind
 abbrev pub is_party : Conf → Party → ℕ → Bool
-is_party k party p = between 1 (many_of k party) p
+is_party k who p = between 1 (many_of k who) p
+
+-- a party of the kind that a number names: none where it names none
+abbrev pub is_named_party : Conf → Option Party → ℕ → Bool
+is_named_party k None p = false
+is_named_party k (Some who) p = is_party k who p
 
 unfoldable pub good_message : Conf → Message → Bool
 good_message k x =
     leb x.kind 15
-    && is_party k (sender_of x.kind) x.sender
-    && is_party k (receiver_of x.kind) x.receiver
+    && is_named_party k (sender_of x.kind) x.sender
+    && is_named_party k (receiver_of x.kind) x.receiver
     && field (carries_tag x.kind) (good_tag k x.tag) (zero_tag x.tag)
     && good_set_word k x.kind x.set
     && field (carries_number x.kind) (between 1 k.top x.number) (eqb x.number 0)

@@ -1,5 +1,5 @@
 -- What the inner functions ask and give, beside the tests of Good. Nothing of the paper stands here.
-use Rattle.std.specs.Prelude.{Bool, true, not, ◌&&◌, ◌||◌, List, [], ◌∷◌, ◌≡◌, ℕ, zero, suc, ◌+◌, ◌-◌, ◌*◌, ◌%◌, ◌^◌, ◌≤◌, ◌<◌, leb, eqb, length, get_or, take, if◌then◌else◌}
+use Rattle.std.specs.Prelude.{Bool, true, not, ◌&&◌, ◌||◌, List, [], ◌∷◌, ◌≡◌, ℕ, zero, suc, ◌+◌, ◌-◌, ◌*◌, ◌%◌, ◌^◌, ◌≤◌, leb, eqb, get_or, if◌then◌else◌}
 use Rattle.sets.specs.Sets.{with}
 use Rattle.sets.specs.Inner.{◌∈◌}
 use Rattle.sets.specs.declared.Tag.{Tag}
@@ -7,25 +7,20 @@ use Rattle.tables.specs.declared.Conf.{Conf}
 use Rattle.tables.specs.declared.Client.{Client}
 use Rattle.tables.specs.declared.Entry.{Entry}
 use Rattle.tables.specs.declared.Message.{Message}
-use Rattle.tables.specs.Kinds.{sender_of, receiver_of, many_of, carries_set, carries_mark, carries_tag, carries_page, carries_number}
+use Rattle.tables.specs.Kinds.{sender_of, receiver_of, many_named, carries_set, carries_mark, carries_tag, carries_page, carries_number}
 use Rattle.tables.specs.Phases.{is_idle, uses_tag, asks_directories, asks_replicas, uses_replica_set, uses_page, rounds_left}
 use Rattle.tables.specs.Rows.{some?}
-use Rattle.tables.specs.Tables.{Replica, no_entry, is_free, has_tag}
+use Rattle.tables.specs.Tables.{Replica, is_free, has_tag}
 use Rattle.tables.specs.Words.{replica_words}
 use Rattle.tables.specs.Machines.{entries_of}
 use Rattle.inspect.specs.declared.limits.Limits.{Limits}
 use Rattle.inspect.specs.Good.{between, zeros, tag_within, each_row, good_entry, tags_once, good_replica}
 
--- few enough parties for a set in a word, and numbers for an operation's rounds
+-- few enough parties for a set in a word, and numbers for an operation's rounds; a clause and no type, since all definitions take a plain Conf
 pub record Few (k : Conf) : Type 0 where
   pub directories : k.directories ≤ 31
   pub replicas : k.replicas ≤ 31
   pub rounds : 2 ≤ k.top
-
--- and a row of n words
-pub record FewIn (k : Conf) (n : ℕ) (l : List ℕ) : Type 0 where
-  pub few : Few k
-  pub wide : length l ≡ n
 
 -- a replica, by its flag and its words
 unfoldable pub replica_in : Conf → Bool → ℕ → List ℕ → Bool
@@ -33,15 +28,15 @@ replica_in k used down l =
     let r : Replica = record { down = down; entries = entries_of l } in
     if used then good_replica k r else eqb down 0 && zeros (replica_words r)
 
--- ---- the entries of a replica, which count from 0
+-- ---- the entries of a replica
 
--- entry j is free, or its tag is in no entry before it
-unfoldable pub fresh_at : List Entry → ℕ → Bool
-fresh_at es j = is_free (get_or es j no_entry) || not (some? (has_tag (get_or es j no_entry).tag) (take j es))
+-- an entry is free, or its tag is in none of those before it
+unfoldable pub fresh_after : List Entry → Entry → Bool
+fresh_after es e = is_free e || not (some? (has_tag e.tag) es)
 
 -- and it is good
-unfoldable pub good_at : Conf → List Entry → ℕ → Bool
-good_at k es j = good_entry k (get_or es j no_entry) && fresh_at es j
+unfoldable pub good_after : Conf → List Entry → Entry → Bool
+good_after k es e = good_entry k e && fresh_after es e
 
 -- every entry is good, and no tag stands in two
 unfoldable pub good_entries : Conf → List Entry → Bool
@@ -51,19 +46,13 @@ good_entries k es = each_row (λ e. good_entry k) 1 es && tags_once es
 abbrev pub mark_of : Tag → ℕ
 mark_of t = t.number % 4 * 8 + t.client % 8 + 1
 
--- the marks, and that of entry j where it is in use
-unfoldable pub marked_at : List Entry → ℕ → ℕ → ℕ
-marked_at es j marks = if is_free (get_or es j no_entry) then marks else with marks (mark_of (get_or es j no_entry).tag)
+-- the marks, and that of an entry that is in use
+unfoldable pub marked_by : Entry → ℕ → ℕ
+marked_by e marks = if is_free e then marks else with marks (mark_of e.tag)
 
--- a tag of the first j entries has left its mark
-pub record Marked (es : List Entry) (j marks : ℕ) : Type 0 where
-  pub left : (t : Tag) → some? (has_tag t) (take j es) ≡ true → mark_of t ∈ marks
-
--- entry j of a replica's words is the next
-pub record Next (l : List ℕ) (j marks : ℕ) : Type 0 where
-  pub long : 240 ≤ length l
-  pub low : j < 12
-  pub marked : Marked (entries_of l) j marks
+-- a tag of these entries has left its mark
+pub record Marked (es : List Entry) (marks : ℕ) : Type 0 where
+  pub left : (t : Tag) → some? (has_tag t) es ≡ true → mark_of t ∈ marks
 
 -- ---- limits: what a row in use may hold, by its kind or phase
 
@@ -74,8 +63,8 @@ limit used n = if used then n else 0
 unfoldable pub kind_limits : Conf → ℕ → Limits
 kind_limits k kind =
     record {
-      first = many_of k (sender_of kind);
-      second = many_of k (receiver_of kind);
+      first = many_named k (sender_of kind);
+      second = many_named k (receiver_of kind);
       number = limit (carries_tag kind) k.top;
       client = limit (carries_tag kind) k.clients;
       set = if carries_set kind then 2 ^ k.replicas - 1 else limit (carries_mark kind) 1;

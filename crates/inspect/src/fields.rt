@@ -10,13 +10,7 @@ use tables::Conf;
 pub(crate) fn joined(s: &[u32]) -> u32
     ensures { eqb result 0 ≡ zeros s.now }
 {
-    let mut any: u32 = 0;
-    let mut i = 0;
-    while i < s.len() {
-        any = any | s[i];
-        i += 1;
-    }
-    any
+    s.iter().fold(0, |any, word| any | *word)
 }
 
 // Whether every word is zero.
@@ -31,19 +25,16 @@ fn counts(k: Conf) -> bool
 {
     is_between(1, k.directories, k.rq)
         & is_between(1, k.directories, k.wq)
-        & ((k.directories as u64) < k.rq as u64 + k.wq as u64)
+        & (u64::from(k.directories) < u64::from(k.rq) + u64::from(k.wq))
         & (k.columns == 0)
 }
 
 fn columns(k: Conf) -> bool
     ensures { result ≡ good_columns k }
 {
-    if k.columns == 0 {
-        return false;
-    }
     (2 <= k.directories)
-        & (k.columns <= k.directories)
-        & (k.directories % k.columns == 0)
+        & is_between(1, k.directories, k.columns)
+        & k.directories.is_multiple_of(k.columns)
         & (k.rq == 0)
         & (k.wq == 0)
 }
@@ -56,6 +47,7 @@ fn quorums(n: u32, k: Conf) -> bool
 }
 
 // The numbers are in range, in a machine with room for n directories: set-up's test too.
+#[tactic(auto, unfolding(crate::specs::Good::good_numbers))]
 pub fn numbers(n: u32, k: Conf) -> bool
     ensures { result ≡ good_numbers n k }
 {
@@ -63,15 +55,15 @@ pub fn numbers(n: u32, k: Conf) -> bool
         & is_between(1, n, k.directories)
         & is_between(1, 7, k.replicas)
         & (k.f <= 3)
-        & (2 * (k.f as u64) + 1 <= k.replicas as u64)
+        & (2 * u64::from(k.f) + 1 <= u64::from(k.replicas))
         & quorums(n, k)
-        & is_between(3, 4294967295, k.top)
+        & is_between(3, u32::MAX, k.top)
 }
 
 pub fn is_between(low: u32, high: u32, n: u32) -> bool
     ensures { result ≡ between low high n }
 {
-    (low <= n) & (n <= high)
+    (low..=high).contains(&n)
 }
 
 pub(crate) fn tag(k: Conf, t: Tag) -> bool

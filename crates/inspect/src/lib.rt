@@ -26,10 +26,11 @@ pub fn is_good(lay: Layout, m: &[u32]) -> bool
     let gap = places::gap_at(lay);
     let entries = places::entries_at(lay, 0);
     let slots = places::slots_at(lay);
+    let end = places::extent(lay);
     fields::zero(&m[places::SPARE..places::CLIENTS])
-        & table::clients(k, &m[places::CLIENTS..])
-        & table::directories(k, lay.directories, &m[places::DIRECTORIES..])
+        & table::clients(k, &m[places::CLIENTS..places::DIRECTORIES])
+        & table::directories(k, &m[places::DIRECTORIES..flags])
         & fields::zero(&m[gap..entries])
-        & table::replicas(k, &m[flags..], &m[entries..])
-        & table::slots(k, &m[slots..])
+        & table::replicas(k, &m[flags..gap], &m[entries..slots])
+        & table::slots(k, &m[slots..end])
 }

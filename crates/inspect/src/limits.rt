@@ -1,4 +1,4 @@
-// What a row in use may hold, by the kind of a message or the phase of a client: a field not in use at most 0.
+// What a row in use may hold, by the kind of a message or the phase of a client: a field not in use at most 0. That the numbers are small (`Few`) is asked, and no part of their type: set-up takes any numbers.
 ghost use Rattle.std.specs.Prelude.{◌≡◌};
 ghost use Rattle.inspect.specs.Inner.{Few, limits_of, kind_table, phase_table};
 
@@ -17,19 +17,23 @@ pub(crate) struct Limits {
     pub page: u32, // the page's words joined
 }
 
-// A row of a table of limits.
-pub(crate) fn row(l: [u32; 8]) -> Limits
-    ensures { result ≡ limits_of l }
-{
-    Limits {
-        first: l[0],
-        second: l[1],
-        number: l[2],
-        client: l[3],
-        set: l[4],
-        least: l[5],
-        most: l[6],
-        page: l[7],
+// From a row of a table of limits.
+impl From<[u32; 8]> for Limits {
+    ghost from_gives = { λ l y. y ≡ limits_of l };
+
+    #[tactic(auto, unfolding(crate::specs::Inner::limits_of))]
+    fn from(l: [u32; 8]) -> Limits {
+        let [first, second, number, client, set, least, most, page] = l;
+        Limits {
+            first,
+            second,
+            number,
+            client,
+            set,
+            least,
+            most,
+            page,
+        }
     }
 }
 
@@ -43,7 +47,7 @@ pub(crate) fn kinds(k: Conf) -> [[u32; 8]; 16]
     let r = k.replicas;
     let t = k.top;
     let s = fields::sets_of(r) - 1;
-    let p = 4294967295;
+    let p = u32::MAX;
     [
         [0, 0, 0, 0, 0, 1, t, 0], // 0 empty
         [c, d, 0, 0, 0, 1, t, 0], // 1 rread
@@ -73,7 +77,7 @@ pub(crate) fn phases(k: Conf) -> [[u32; 8]; 7]
     let t = k.top;
     let s = fields::sets_of(k.replicas) - 1;
     let d = fields::sets_of(k.directories) - 1;
-    let p = 4294967295;
+    let p = u32::MAX;
     [
         [0, 0, 0, 0, 0, 0, t, 0], // 0 idle
         [d, 0, t, c, s, 1, t - 2, 0], // 1 rdr

@@ -8,35 +8,39 @@ use crate::limits::Limits;
 use sets::Tag;
 use tables::{Client, Conf, Directory, Message};
 
-// The fields that a client and a message share. Of the page, the words joined are told.
-fn shared(y: Limits, t: Tag, set: u32, n: u32, spare: u32, page: u32) -> bool
-    ensures { result ≡ within y t set n spare page }
-{
-    fields::tag_within(y.number, y.client, t)
-        & (set <= y.set)
-        & fields::is_between(y.least, y.most, n)
-        & (spare == 0)
-        & (page <= y.page)
+impl Limits {
+    // The fields that a client and a message share. Of the page, the words joined are told.
+    fn allow(self, t: Tag, set: u32, n: u32, spare: u32, page: u32) -> bool
+        ensures { result ≡ within self t set n spare page }
+    {
+        fields::tag_within(self.number, self.client, t)
+            & (set <= self.set)
+            & fields::is_between(self.least, self.most, n)
+            & (spare == 0)
+            & (page <= self.page)
+    }
+
+    pub(crate) fn allow_client(self, w: Client, page: u32) -> bool
+        ensures { result ≡ client_within self w page }
+    {
+        (w.down <= 1)
+            & (w.answered <= self.first)
+            & self.allow(w.tag, w.replicas, w.number, w.spare, page)
+    }
+
+    pub(crate) fn allow_message(self, x: Message, page: u32) -> bool
+        ensures { result ≡ message_within self x page }
+    {
+        fields::is_between(1, self.first, x.sender)
+            & fields::is_between(1, self.second, x.receiver)
+            & self.allow(x.tag, x.set, x.number, x.spare, page)
+    }
 }
 
-pub(crate) fn client(y: Limits, w: Client, page: u32) -> bool
-    ensures { result ≡ client_within y w page }
-{
-    (w.down <= 1) & (w.answered <= y.first) & shared(y, w.tag, w.replicas, w.number, w.spare, page)
-}
-
+#[tactic(auto, unfolding(crate::specs::Good::good_directory))]
 pub(crate) fn directory(k: Conf, d: Directory) -> bool
     requires { Few k }
     ensures { result ≡ good_directory k d }
 {
-    let t = d.tag;
-    (d.down <= 1) & fields::tag(k, t) & (d.set < fields::sets_of(k.replicas))
-}
-
-pub(crate) fn message(y: Limits, x: Message, page: u32) -> bool
-    ensures { result ≡ message_within y x page }
-{
-    fields::is_between(1, y.first, x.sender)
-        & fields::is_between(1, y.second, x.receiver)
-        & shared(y, x.tag, x.set, x.number, x.spare, page)
+    (d.down <= 1) & fields::tag(k, d.tag) & (d.set < fields::sets_of(k.replicas))
 }

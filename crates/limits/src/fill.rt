@@ -1,5 +1,6 @@
 // FULL: a replica has room for 12 tags, the first one among them.
 use crate::{say, wear};
+use machine::Base;
 use std::io;
 
 fn writes(m: &mut [u32], times: u32) -> u32 {
@@ -18,6 +19,6 @@ fn fill(rt: &impl Print, m: &mut [u32]) -> io::Result<()> {
 
 pub fn run(rt: &impl Print, m: &mut [u32]) -> io::Result<()> {
     fill(rt, m)?;
-    say::line(rt, b"tidy", machine::tidy(m, 1).code)?;
+    say::line(rt, b"tidy", machine::tidy::<Base>(m, 1).code)?;
     say::line(rt, b"the 13th tag after tidy", wear::deliver(m))
 }

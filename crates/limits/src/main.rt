@@ -10,8 +10,11 @@ mod wide; // wide.rt: directories in columns
 
 use std::io;
 
+// A buffer with room for either machine, and some words behind it.
+type Words = [u32; 5040];
+
 fn main(rt: HostRuntime) -> io::Result<()> {
-    let mut m = [0u32; 5040];
+    let mut m: Words = [0; 5040];
     set_up::numbers(&rt, &mut m)?;
     set_up::buffers(&rt, &mut m)?;
     set_up::pages(&rt, &mut m)?;

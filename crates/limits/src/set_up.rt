@@ -1,7 +1,8 @@
 // Set-up at the borders of its ranges; buffers and pages of other lengths.
 ghost use Rattle.std.specs.Prelude.{◌≤◌, length};
 
-use crate::say;
+use crate::{Words, say};
+use machine::{Base, LaidOut};
 use std::io;
 use tables::Conf;
 
@@ -18,18 +19,35 @@ pub fn conf(directories: u32, replicas: u32, f: u32, rq: u32, wq: u32, top: u32)
     }
 }
 
-fn code(m: &mut [u32], k: Conf) -> u32 {
-    machine::set_up(m, k, &[7u32; 16]).code
+// The code of a set-up.
+pub fn code<L: LaidOut>(m: &mut [u32], k: Conf) -> u32 {
+    machine::set_up::<L>(m, k, &[7u32; 16]).code
 }
 
 fn quorums(rt: &impl Print, m: &mut [u32]) -> io::Result<()> {
-    say::line(rt, b"nd 3, rq 1, wq 2", code(m, conf(3, 3, 1, 1, 2, 9)))?;
-    say::line(rt, b"nd 3, rq 2, wq 2", code(m, conf(3, 3, 1, 2, 2, 9)))
+    say::line(
+        rt,
+        b"nd 3, rq 1, wq 2",
+        code::<Base>(m, conf(3, 3, 1, 1, 2, 9)),
+    )?;
+    say::line(
+        rt,
+        b"nd 3, rq 2, wq 2",
+        code::<Base>(m, conf(3, 3, 1, 2, 2, 9)),
+    )
 }
 
 fn replicas(rt: &impl Print, m: &mut [u32]) -> io::Result<()> {
-    say::line(rt, b"nr 2 with f 1", code(m, conf(3, 2, 1, 2, 2, 9)))?;
-    say::line(rt, b"nr 3 with f 1", code(m, conf(3, 3, 1, 2, 2, 9)))
+    say::line(
+        rt,
+        b"nr 2 with f 1",
+        code::<Base>(m, conf(3, 2, 1, 2, 2, 9)),
+    )?;
+    say::line(
+        rt,
+        b"nr 3 with f 1",
+        code::<Base>(m, conf(3, 3, 1, 2, 2, 9)),
+    )
 }
 
 pub fn numbers(rt: &impl Print, m: &mut [u32]) -> io::Result<()> {
@@ -37,37 +55,36 @@ pub fn numbers(rt: &impl Print, m: &mut [u32]) -> io::Result<()> {
     replicas(rt, m)
 }
 
-fn read_in(m: &mut [u32], words: usize) -> u32
+// The code of a start read in the first words of a buffer.
+pub fn read_in<L: LaidOut>(m: &mut [u32], words: usize) -> u32
     requires { words ≤ length m.old }
 {
-    machine::start_read(&mut m[..words], 1).code
+    machine::start_read::<L>(&mut m[..words], 1).code
 }
 
 fn code_in(m: &mut [u32], words: usize) -> u32
     requires { words ≤ length m.old }
 {
-    code(&mut m[..words], conf(3, 3, 1, 2, 2, 9))
+    code::<Base>(&mut m[..words], conf(3, 3, 1, 2, 2, 9))
 }
 
 // The machine is good before each call, so that only the length can be refused.
-pub fn buffers(rt: &impl Print, m: &mut [u32]) -> io::Result<()>
-    requires { 4992 ≤ length m.old }
-{
+pub fn buffers(rt: &impl Print, m: &mut Words) -> io::Result<()> {
     say::line(
         rt,
         b"start read in a buffer of 4,991 words",
-        read_in(m, 4991),
+        read_in::<Base>(m, 4991),
     )?;
     say::line(
         rt,
         b"start read in a buffer of 4,992 words",
-        read_in(m, 4992),
+        read_in::<Base>(m, 4992),
     )?;
     say::line(rt, b"set-up in a buffer of 4,991 words", code_in(m, 4991))
 }
 
 fn start(m: &mut [u32], page: &[u32]) -> u32 {
-    machine::start_write(m, 2, page).code
+    machine::start_write::<Base>(m, 2, page).code
 }
 
 pub fn pages(rt: &impl Print, m: &mut [u32]) -> io::Result<()> {

@@ -1,5 +1,6 @@
 // WORN: a start with message number + 3 above top.
 use crate::say;
+use machine::Base;
 use std::io;
 use tables::Conf;
 
@@ -18,12 +19,12 @@ fn conf(top: u32) -> Conf {
 }
 
 pub fn set_up(m: &mut [u32], top: u32) {
-    machine::set_up(m, conf(top), &[7u32; 16]);
+    machine::set_up::<Base>(m, conf(top), &[7u32; 16]);
 }
 
 pub fn deliver(m: &mut [u32]) -> u32 {
     let mut shown = [0u32; 16];
-    machine::deliver(m, 1, &mut shown).code
+    machine::deliver::<Base>(m, 1, &mut shown).code
 }
 
 // Answers the last code that was no DONE.
@@ -40,7 +41,7 @@ fn deliver_all(m: &mut [u32], times: u32) -> u32 {
 
 // A write from its start to the secured entry: every message of it enters slot 1. Answers WRITE ENDED, or the code that stopped it.
 pub fn write(m: &mut [u32]) -> u32 {
-    let code = machine::start_write(m, 1, &[9u32; 16]).code;
+    let code = machine::start_write::<Base>(m, 1, &[9u32; 16]).code;
     if code != 0 {
         return code;
     }
@@ -50,7 +51,7 @@ pub fn write(m: &mut [u32]) -> u32 {
 fn after_write(m: &mut [u32], top: u32) -> u32 {
     set_up(m, top);
     write(m);
-    machine::start_read(m, 1).code
+    machine::start_read::<Base>(m, 1).code
 }
 
 // A write uses three message numbers.

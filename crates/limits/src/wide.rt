@@ -1,37 +1,38 @@
 // Directories in columns, in the layout of 16 directory rows: which numbers are taken, which machines are bad, the buffer's length, and operations on 16 directories in 4 columns.
-ghost use Rattle.std.specs.Prelude.{◌≤◌, ◌<◌, length};
+ghost use Rattle.std.specs.Prelude.{◌<◌, length};
 
-use crate::{say, set_up};
+use crate::{Words, say, set_up};
+use machine::{Base, Wide};
 use std::io;
 use tables::Conf;
 
 fn conf(directories: u32, rq: u32, wq: u32, columns: u32) -> Conf {
-    let mut k = set_up::conf(directories, 3, 1, rq, wq, 99);
-    k.columns = columns;
-    k
+    Conf {
+        columns,
+        ..set_up::conf(directories, 3, 1, rq, wq, 99)
+    }
 }
 
 fn code(m: &mut [u32], directories: u32, columns: u32) -> u32 {
-    machine::wide::set_up(m, conf(directories, 0, 0, columns), &[7u32; 16]).code
+    set_up::code::<Wide>(m, conf(directories, 0, 0, columns))
 }
 
 // What the other layout has room for, or takes.
 fn other(rt: &impl Print, m: &mut [u32]) -> io::Result<()> {
-    let page = [7u32; 16];
     say::line(
         rt,
         b"5 rows, nd 6",
-        machine::set_up(m, conf(6, 6, 6, 0), &page).code,
+        set_up::code::<Base>(m, conf(6, 6, 6, 0)),
     )?;
     say::line(
         rt,
         b"5 rows, nd 5 in 1 column",
-        machine::set_up(m, conf(5, 5, 5, 1), &page).code,
+        set_up::code::<Base>(m, conf(5, 5, 5, 1)),
     )
 }
 
 fn counted(m: &mut [u32], directories: u32, rq: u32, wq: u32, columns: u32) -> u32 {
-    machine::wide::set_up(m, conf(directories, rq, wq, columns), &[7u32; 16]).code
+    set_up::code::<Wide>(m, conf(directories, rq, wq, columns))
 }
 
 fn counts(rt: &impl Print, m: &mut [u32]) -> io::Result<()> {
@@ -75,30 +76,24 @@ fn with_word(m: &mut [u32], place: usize, value: u32) -> u32
 {
     let old = m[place];
     m[place] = value;
-    let code = machine::wide::report(m).code;
+    let code = machine::report::<Wide>(m).code;
     m[place] = old;
     code
 }
 
-fn columns(rt: &impl Print, m: &mut [u32]) -> io::Result<()>
-    requires { 5037 ≤ length m.old }
-{
+fn columns(rt: &impl Print, m: &mut Words) -> io::Result<()> {
     say::line(rt, b"a machine with 8 for 4 columns", with_word(m, 7, 8))?;
     say::line(rt, b"with no columns", with_word(m, 7, 0))?;
     say::line(rt, b"with 3 columns of 16", with_word(m, 7, 3))
 }
 
-fn spares(rt: &impl Print, m: &mut [u32]) -> io::Result<()>
-    requires { 5037 ≤ length m.old }
-{
+fn spares(rt: &impl Print, m: &mut Words) -> io::Result<()> {
     say::line(rt, b"with an rq", with_word(m, 4, 1))?;
     say::line(rt, b"with a spare word, 8", with_word(m, 8, 1))?;
     say::line(rt, b"with a spare word, 279", with_word(m, 279, 1))
 }
 
-fn tables(rt: &impl Print, m: &mut [u32]) -> io::Result<()>
-    requires { 5037 ≤ length m.old }
-{
+fn tables(rt: &impl Print, m: &mut Words) -> io::Result<()> {
     say::line(
         rt,
         b"with a set above its replicas, directory 16",
@@ -112,31 +107,23 @@ fn tables(rt: &impl Print, m: &mut [u32]) -> io::Result<()>
     say::line(rt, b"with a word after the machine", with_word(m, 5036, 1))
 }
 
-fn read_in(m: &mut [u32], words: usize) -> u32
-    requires { words ≤ length m.old }
-{
-    machine::wide::start_read(&mut m[..words], 1).code
-}
-
-fn buffers(rt: &impl Print, m: &mut [u32]) -> io::Result<()>
-    requires { 5036 ≤ length m.old }
-{
+fn buffers(rt: &impl Print, m: &mut Words) -> io::Result<()> {
     say::line(
         rt,
         b"16 rows, start read in a buffer of 5,035 words",
-        read_in(m, 5035),
+        set_up::read_in::<Wide>(m, 5035),
     )?;
     say::line(
         rt,
         b"16 rows, start read in a buffer of 5,036 words",
-        read_in(m, 5036),
+        set_up::read_in::<Wide>(m, 5036),
     )
 }
 
 // Slots 1 to 64 are delivered in turn until an operation ends; its code.
 fn finish(m: &mut [u32], page: &mut [u32]) -> u32 {
     for n in 0..640u32 {
-        let code = machine::wide::deliver(m, n % 64 + 1, page).code;
+        let code = machine::deliver::<Wide>(m, n % 64 + 1, page).code;
         if (code == 1) | (code == 2) {
             return code;
         }
@@ -155,7 +142,7 @@ fn write(rt: &impl Print, m: &mut [u32]) -> io::Result<()> {
     say::line(
         rt,
         b"16 rows, start write",
-        machine::wide::start_write(m, 2, &[9u32; 16]).code,
+        machine::start_write::<Wide>(m, 2, &[9u32; 16]).code,
     )?;
     say::line(rt, b"16 rows, the write ends", finish(m, &mut page))
 }
@@ -164,7 +151,7 @@ fn again(rt: &impl Print, m: &mut [u32]) -> io::Result<()> {
     say::line(
         rt,
         b"16 rows, start read",
-        machine::wide::start_read(m, 1).code,
+        machine::start_read::<Wide>(m, 1).code,
     )?;
     read(rt, m)
 }
@@ -173,9 +160,13 @@ fn told(rt: &impl Print, m: &mut [u32]) -> io::Result<()> {
     say::line(
         rt,
         b"16 rows, crash of directory 16",
-        machine::wide::crash(m, 2, 16).code,
+        machine::crash::<Wide>(m, 2, 16).code,
     )?;
-    say::line(rt, b"16 rows, parties down", machine::wide::report(m).down)
+    say::line(
+        rt,
+        b"16 rows, parties down",
+        machine::report::<Wide>(m).down,
+    )
 }
 
 fn numbers(rt: &impl Print, m: &mut [u32]) -> io::Result<()> {
@@ -186,17 +177,13 @@ fn numbers(rt: &impl Print, m: &mut [u32]) -> io::Result<()> {
     rows(rt, m)
 }
 
-fn words(rt: &impl Print, m: &mut [u32]) -> io::Result<()>
-    requires { 5037 ≤ length m.old }
-{
+fn words(rt: &impl Print, m: &mut Words) -> io::Result<()> {
     columns(rt, m)?;
     spares(rt, m)?;
     tables(rt, m)
 }
 
-pub fn run(rt: &impl Print, m: &mut [u32]) -> io::Result<()>
-    requires { 5037 ≤ length m.old }
-{
+pub fn run(rt: &impl Print, m: &mut Words) -> io::Result<()> {
     numbers(rt, m)?;
     words(rt, m)?;
     buffers(rt, m)?;

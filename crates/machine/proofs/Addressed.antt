@@ -2,8 +2,8 @@
 use Prim.Native.Nat.{ℕ, ◌^◌, ◌≤◌, ◌<◌}
 use native.Mathlib.Omega.{arith}
 use lib.Dec.{eqb}
-use Rattle.sets.specs.declared.Order.{Order}
-use Rattle.sets.specs.declared.Order.TheVariants.{Lower, Same, Greater}
+use Rattle.std.specs.declared.cmp.Ordering.{Ordering}
+use Rattle.std.specs.declared.cmp.Ordering.TheVariants.{Less, Equal, Greater}
 use Rattle.sets.specs.Tags.{against}
 use Rattle.sets.specs.Sets.{with, all}
 use Rattle.sets.proofs.Laws.{join_lt, with_lt}
@@ -45,15 +45,15 @@ module _ (d : ℕ) (few : d ≤ 16) (k : Conf) (n : NumbersFacts d k) where
         if_ind (λ (y : Client). Small y.replicas) (eqb w.phase 1) (λ _. gathers (against x.tag w.tag))
         (λ _. if_ind (λ (y : Client). Small y.replicas) (eqb w.phase 4) (λ _. raises (against x.tag w.tag)) (λ _. s))
       where
-        gathers : (o : Order) → Small (gathered w (with w.answered x.sender) x.tag x.set o).replicas
+        gathers : (o : Ordering) → Small (gathered w (with w.answered x.sender) x.tag x.set o).replicas
         gathers Greater = t
-        gathers Same = join_lt 16 w.replicas x.set s t
-        gathers Lower = s
+        gathers Equal = join_lt 16 w.replicas x.set s t
+        gathers Less = s
 
-        raises : (o : Order) → Small (raised w (with w.answered x.sender) x.tag o).replicas
+        raises : (o : Ordering) → Small (raised w (with w.answered x.sender) x.tag o).replicas
         raises Greater = s
-        raises Same = s
-        raises Lower = s
+        raises Equal = s
+        raises Less = s
 
     pub client_few : (own : ℕ) (o : Outcome) → Sends (client_post k own w (client_after w x o) o)
     unfolding client_post client_after secures

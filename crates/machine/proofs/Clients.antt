@@ -9,16 +9,15 @@ use native.Mathlib.Omega.{arith}
 use borrow.Author.Tests.{eq-eqb, ne_eqb, eqb-true}
 use lib.Dec.{eqb}
 use lib.ListN.{length, drop}
-use Rattle.tables.specs.Layouts.{extent, base}
+use Rattle.tables.specs.Layouts.{extent}
 use Rattle.sets.specs.declared.Tag.{Tag}
 use Rattle.sets.proofs.Tests.{either, false-T}
 use Rattle.tables.specs.declared.Layout.{Layout}
 use Rattle.tables.specs.declared.Client.{Client}
 use Rattle.tables.specs.declared.Conf.{Conf}
 use Rattle.tables.specs.declared.Message.{Message}
-use Rattle.tables.specs.declared.Party.TheVariants.{AClient, AReplica}
+use Rattle.tables.specs.declared.Party.TheVariants.{AClient}
 use Rattle.tables.specs.Phases.{asks_directories, asks_replicas}
-use Rattle.tables.specs.Inner.{most_of}
 use Rattle.tables.specs.Tables.{Page, no_message, is_empty, client_at, with_slot}
 use Rattle.tables.specs.Words.{words}
 use Rattle.tables.specs.Machines.{conf_of, machine_of}
@@ -57,9 +56,6 @@ unfolding machine_of
 many_clients lay m = clients_many (drop 16 m)
 
 module _ {lay : Layout} {m : List ℕ} {s : ℕ} {x : Message} (g : Arrived lay AClient m s x) where
-  no_replica_lem : AClient ≡ AReplica → ⊥
-  no_replica_lem q = omega (arith, ap (most_of base) q)
-
   module _ (w : Client) (e : w ≡ client_at (machine_of lay m) (suc (x.receiver - 1))) where
     here : w ≡ client_at (machine_of lay m) x.receiver
     here = e ∙ ap (λ (n : ℕ). client_at (machine_of lay m) n) (own g)
@@ -69,7 +65,7 @@ module _ {lay : Layout} {m : List ℕ} {s : ℕ} {x : Message} (g : Arrived lay 
 
     pub client_down : (page : List ℕ) (a : Answer) (l : List ℕ) → w.down ≡ 1 → a ≡ coded 4 → l ≡ words (with_slot (machine_of lay m) (suc s) no_message) (drop (extent lay) m)
         → Took lay (step (deliver (suc s) page) (machine_of lay m)) a page m l
-    client_down page a l f h k = drops g page (flag true (eq-eqb _ _ f)) (not_full g no_replica_lem) a l h k
+    client_down page a l f h k = drops g page (flag true (eq-eqb _ _ f)) (not_full g (λ q. cc)) a l h k
 
     module _ (k : Conf) (c : k ≡ conf_of m) where
       facts : ClientFacts k w
@@ -122,7 +118,7 @@ module _ {lay : Layout} {m : List ℕ} {s : ℕ} {x : Message} (g : Arrived lay 
             → Took lay (step (deliver (suc s) page) (machine_of lay m)) a p m l
         unfolding client_effect client_post
         client_takes page p a l f u v =
-            lands g page (not_full g no_replica_lem) (client (suc (x.receiver - 1)) (client_after w x o)) (client_post k x.receiver w (client_after w x o) o)
+            lands g page (not_full g (λ q. cc)) (client (suc (x.receiver - 1)) (client_after w x o)) (client_post k x.receiver w (client_after w x o) o)
             (answer_of x.receiver o) (filled o x page) effect client_turned.sent a p l v
             (u ∙ filled_by x page o (has_room (machine_of lay m) (client_post k x.receiver w (client_after w x o) o)) room)
           where

@@ -14,9 +14,8 @@ use Rattle.tables.specs.declared.Layout.{Layout}
 use Rattle.tables.specs.declared.Conf.{Conf}
 use Rattle.tables.specs.declared.Directory.{Directory}
 use Rattle.tables.specs.declared.Message.{Message}
-use Rattle.tables.specs.declared.Party.TheVariants.{ADirectory, AReplica}
-use Rattle.tables.specs.Layouts.{extent, base}
-use Rattle.tables.specs.Inner.{most_of}
+use Rattle.tables.specs.declared.Party.TheVariants.{ADirectory}
+use Rattle.tables.specs.Layouts.{extent}
 use Rattle.tables.specs.Tables.{Page, no_message, directory_at, with_slot}
 use Rattle.tables.specs.Words.{words}
 use Rattle.tables.specs.Machines.{conf_of, machine_of}
@@ -35,9 +34,6 @@ use Rattle.machine.proofs.Parties.{numbers_of_lem}
 use Rattle.machine.proofs.Landings.{own, effect_up, lands, drops, not_full, page_kept}
 
 module _ {lay : Layout} {m : List ℕ} {s : ℕ} {x : Message} (g : Arrived lay ADirectory m s x) where
-  no_replica_lem : ADirectory ≡ AReplica → ⊥
-  no_replica_lem q = omega (arith, ap (most_of base) q)
-
   pub directory_able : (k : Conf) → k ≡ conf_of m → DirectoryAble k.f x
   directory_able k e = record { few = (numbers_of_lem lay m g.fine k e).few_crashes; sender = g.sender }
 
@@ -61,13 +57,13 @@ module _ {lay : Layout} {m : List ℕ} {s : ℕ} {x : Message} (g : Arrived lay 
 
     pub directory_down : (a : Answer) (l : List ℕ) → d.down ≡ 1 → a ≡ coded 4 → l ≡ words (with_slot (machine_of lay m) (suc s) no_message) (drop (extent lay) m)
         → Delivered lay (machine_of lay m) (suc s) a m l
-    directory_down a l f h k = record { took = λ page. drops g page (flag true (eq-eqb _ _ f)) (not_full g no_replica_lem) a l h k }
+    directory_down a l f h k = record { took = λ page. drops g page (flag true (eq-eqb _ _ f)) (not_full g (λ q. cc)) a l h k }
 
     pub directory_takes : (k : Conf) (y : Directory) (p : Post) (a : Answer) (l : List ℕ) → (d.down ≡ 1 → ⊥) → k ≡ conf_of m
         → y ≡ directory_after k.f d x → p ≡ directory_post d x → Committed lay m s (directory (suc (x.receiver - 1)) y) p (coded 0) a l
         → Delivered lay (machine_of lay m) (suc s) a m l
     unfolding directory_effect
-    directory_takes k y p a l f c v q w = record { took = λ page. lands g page (not_full g no_replica_lem) (directory (suc (x.receiver - 1)) y) p (coded 0) page (effect page) (directory_few d p q) a page l w (page_kept (has_room (machine_of lay m) p) page) }
+    directory_takes k y p a l f c v q w = record { took = λ page. lands g page (not_full g (λ q. cc)) (directory (suc (x.receiver - 1)) y) p (coded 0) page (effect page) (directory_few d p q) a page l w (page_kept (has_room (machine_of lay m) p) page) }
       where
         effect : (page : Page) → deliver_effect (machine_of lay m) (suc s) page ≡ taken (suc s) (directory (suc (x.receiver - 1)) y) p (coded 0) page
         effect page = effect_up g page (flag false (ne_eqb _ _ f)) ∙ rw (own g, v, q, c, conf_of_lem lay m, here)

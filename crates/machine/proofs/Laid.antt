@@ -7,10 +7,9 @@ use native.Mathlib.Nat.{zero-add, suc-add, not-suc-le-zero, le_of_suc-le-suc}
 use native.Mathlib.Decide.{dec_le}
 use native.Mathlib.Numerals.{add-one}
 use native.Mathlib.Omega.{arith}
-use borrow.Author.Fill.{fill_more}
 use borrow.Author.Tests.{le-leb, lt-leb}
 use lib.Dec.{leb}
-use lib.ListN.{length, get_or, set, drop, replicate, length-set, length-drop, length-replicate}
+use lib.ListN.{length, get_or, set, drop, replicate, length-drop, length-replicate}
 use Rattle.sets.specs.Plain.{numbers}
 use Rattle.sets.specs.Tags.{first}
 use Rattle.sets.specs.Sets.{all}
@@ -32,23 +31,6 @@ use Rattle.tables.proofs.Holds.{Holds, holds_length, holds_machine, holds_rest, 
 use Rattle.rules.specs.Replica.{entry}
 use Rattle.machine.specs.SetUp.{new_machine}
 use Rattle.machine.specs.Inner.{blank, first_rows, with_first, with_directories, with_replicas}
-
--- ---- the words zeroed
-
--- m is m₀ with its first i words zeroed
-pub record Zeroed (m₀ : List ℕ) (i : ℕ) (m : List ℕ) : Type 0 where
-  pub words : m ≡ replicate i 0 ++ drop i m₀
-  pub same : length m ≡ length m₀
-
-pub zeroed_none : (m : List ℕ) → Zeroed m 0 m
-zeroed_none m = record { words = refl; same = refl }
-
-module _ (lay : Layout) (m₀ m : List ℕ) (i end : ℕ) (z : Zeroed m₀ i m) (whole : end ≡ extent lay) where
-  pub zeroed_more : i < end → Fits lay m₀ → Zeroed m₀ (i + 1) (set m i 0)
-  zeroed_more h g = record { words = rw z.words (fill_more i 0 m₀ (omega arith)); same = simp length-set z.same }
-
-  pub zeroed_all : i ≤ end → end ≤ i → m ≡ replicate (extent lay) 0 ++ drop (extent lay) m₀
-  zeroed_all h g = let e : i ≡ extent lay = omega arith in z.words ∙ ap (λ (n : ℕ). replicate n 0 ++ drop n m₀) e
 
 -- ---- rows from the first on
 
@@ -104,16 +86,6 @@ module _ (lay : Layout) (m₀ m l : List ℕ) (i n : ℕ) (less : i < n) where
       let r : i < length (machine_of lay m₀).replicas = rw its_replicas (omega arith) in
       rw (add-one i, ← rows_more (with_first x) (machine_of lay m₀).replicas i no_replica r)
       (holds_step h (λ N. with_entry N (suc i) 1 x) l e (whole_entry h.whole (suc i) 1 x p) h.room)
-
-module _ (lay : Layout) (m t : List ℕ) (M : Machine) (i n : ℕ) (a : i ≤ n) (b : n ≤ i) where
-  same_count : i ≡ n
-  same_count = omega arith
-
-  pub directories_end : (x : Directory) → Holds lay m (with_directories M i x) t → m ≡ words (with_directories M n x) t
-  directories_end x h = rw (← same_count) h.is
-
-  pub replicas_end : (x : Entry) → Holds lay m (with_replicas M i x) t → m ≡ words (with_replicas M n x) t
-  replicas_end x h = rw (← same_count) h.is
 
 -- ---- the whole of set-up
 

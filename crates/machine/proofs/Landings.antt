@@ -1,12 +1,11 @@
 -- A delivery by its effect: dropped, refused with 23 or 24, or taken.
-use Rattle.std.specs.Prelude.{if◌then◌else◌}
+use Rattle.std.specs.Prelude.{Some, if◌then◌else◌}
 use mathlib.Core.Path.{◌≡◌, refl, sym, ap, ◌∙◌}
 use mathlib.Core.Bool.{Bool, true, false, not, and-false}
 use mathlib.Core.List.{List, [], ◌∷◌}
 use Prim.Native.Nat.{ℕ, suc, ◌+◌, ◌-◌, ◌^◌, ◌<◌}
 use native.Mathlib.Omega.{arith}
-use borrow.Author.Tests.{ne_eqb, le-leb, not-true, not-false}
-use lib.Dec.{leb}
+use borrow.Author.Tests.{ne_eqb, le-leb}
 use lib.ListN.{length, set, drop}
 use Rattle.sets.specs.Sets.{size}
 use Rattle.sets.proofs.Laws.{size_none}
@@ -40,8 +39,10 @@ use Rattle.machine.specs.Calls.{deliver, is_down}
 use Rattle.machine.specs.Deliver.{taken, received, deliver_effect}
 use Rattle.machine.specs.Refusals.{is_overfull, no_slot, first_of, refusal}
 use Rattle.machine.specs.Steps.{effect_of, step}
-use Rattle.machine.specs.Inner.{Took, Arrived, has_room, Committed, stocked}
-use Rattle.machine.proofs.Rooms.{too_few}
+use Rattle.machine.specs.declared.refusal.Refusal.{Refusal}
+use Rattle.machine.specs.Told.{number_of}
+use Rattle.machine.specs.Inner.{Took, Arrived, has_room, room_code, Committed, stocked}
+use Rattle.machine.proofs.Rooms.{too_few, roomy, crowded}
 use Rattle.machine.proofs.Stored.{as_replica, stock_in}
 use Rattle.machine.proofs.Steps.{took_refused, took_accepted}
 
@@ -63,7 +64,7 @@ module _ (a b c d : Bool) where
   tested_24 p q r = rw (p, q, r)
 
 -- only 10 and 15 find a replica full
-never_full : (M : Machine) (x : Message) → (receiver_of x.kind ≡ AReplica → ⊥) → is_overfull M x ≡ false
+never_full : (M : Machine) (x : Message) → (receiver_of x.kind ≡ Some AReplica → ⊥) → is_overfull M x ≡ false
 unfolding is_full receiver_of
 never_full M x n =
     simp (ne_eqb x.kind 10 (λ q. n (ap receiver_of q)), ne_eqb x.kind 15 (λ q. n (ap receiver_of q)), and-false)
@@ -80,7 +81,7 @@ module _ {lay : Layout} {who : Party} {m : List ℕ} {s : ℕ} {x : Message} (g 
   not_empty : is_empty (slot_at (machine_of lay m) (suc s)) ≡ false
   not_empty = ne_eqb _ 0 (λ q. g.some (ap (λ (y : Message). y.kind) g.here ∙ q))
 
-  pub not_full : (who ≡ AReplica → ⊥) → is_overfull (machine_of lay m) (slot_at (machine_of lay m) (suc s)) ≡ false
+  pub not_full : (Some who ≡ Some AReplica → ⊥) → is_overfull (machine_of lay m) (slot_at (machine_of lay m) (suc s)) ≡ false
   not_full n =
       never_full (machine_of lay m) (slot_at (machine_of lay m) (suc s)) (λ q. n (sym g.whose ∙ ap (λ (y : Message). receiver_of y.kind) g.here ∙ q))
 
@@ -99,7 +100,7 @@ module _ {lay : Layout} {who : Party} {m : List ℕ} {s : ℕ} {x : Message} (g 
   effect_down page d = rw (← g.here, g.whose, d)
 
   pub effect_up : (page : Page) → is_down (machine_of lay m) who x.receiver ≡ false
-      → deliver_effect (machine_of lay m) (suc s) page ≡ received who (machine_of lay m) (suc s) x page
+      → deliver_effect (machine_of lay m) (suc s) page ≡ received (Some who) (machine_of lay m) (suc s) x page
   unfolding deliver_effect
   effect_up page d = rw (← g.here, g.whose, d)
 
@@ -146,18 +147,18 @@ module _ {lay : Layout} {who : Party} {m : List ℕ} {s : ℕ} {x : Message} (g 
       lands page o nothing no_post (coded 4) page (effect_down page d) (omega arith) a page l
       (record { answer = rw room h; buffer = rw (room, no_messages) k }) (rw room)
 
--- ---- the commit: b is whether there is room
-module _ (lay : Layout) (m : List ℕ) (s : ℕ) (y : Post) (b : Bool) (r : b ≡ leb (size y.to) (empty_slots (machine_of lay m).slots + 1)) where
-  pub commits_not : (ch : Change) (a₀ a : Answer) → not b ≡ true → a ≡ coded 24 → Committed lay m s ch y a₀ a m
-  commits_not ch a₀ a n h = let f = sym r ∙ not-true b n in record { answer = rw f h; buffer = rw f }
+-- ---- the commit
+module _ (lay : Layout) (m : List ℕ) (s : ℕ) (y : Post) where
+  pub commits_not : (ch : Change) (a₀ : Answer) (r : Refusal) → number_of r ≡ room_code (machine_of lay m) 1 y.to → Committed lay m s ch y a₀ (coded (number_of r)) m
+  commits_not ch a₀ r e = let f = crowded (machine_of lay m) 1 y.to r e in record { answer = rw (f.0, f.1); buffer = rw f.0 }
 
   -- n is the buffer with the row written
-  module _ (h : Fits lay m) (n l : List ℕ) (u : not b ≡ false)
+  module _ (u : 0 ≡ room_code (machine_of lay m) 1 y.to) (h : Fits lay m) (n l : List ℕ)
       (e : l ≡ words (with_slots (machine_of lay n) (placed (messages_of y) (set (machine_of lay n).slots s no_message))) (drop (extent lay) n)) where
     commits : (ch : Change) (a₀ a : Answer) → Holds lay n (changed ch (machine_of lay m)) (drop (extent lay) m) → (changed ch (machine_of lay m)).slots ≡ (machine_of lay m).slots → a ≡ a₀
         → Committed lay m s ch y a₀ a l
     commits ch a₀ a k v z =
-        let t = sym r ∙ not-false b u in
+        let t = roomy (machine_of lay m) 1 y.to u in
         record { answer = rw t z; buffer = rw t (e ∙ rw (holds_machine k, holds_rest k, v)) }
 
     pub commits_directory : (i : ℕ) (d : Directory) (a₀ a : Answer) → n ≡ words (with_directory (machine_of lay m) (suc i) d) (drop (extent lay) m) → a ≡ a₀

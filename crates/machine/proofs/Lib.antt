@@ -1,5 +1,6 @@
 -- The laws behind the functions. `runs` and `history` cite Quiet; the rest and the functions' proofs may change freely.
 pub mod Parties
+pub mod Refused
 pub mod Steps
 pub mod Mailed
 pub mod Stored

@@ -1,11 +1,8 @@
 -- The machine's slots are the words that a buffer has from its first slot on: one law carries every function of `mail` over.
 use mathlib.Core.Path.{◌≡◌, sym, ap, ◌∙◌}
-use mathlib.Core.Bool.{Bool}
 use mathlib.Core.List.{List, ◌++◌}
-use Prim.Native.Nat.{ℕ, suc, ◌+◌, ◌-◌}
-use lib.Dec.{leb}
+use Prim.Native.Nat.{ℕ, suc, ◌-◌}
 use lib.ListN.{length, take, drop}
-use Rattle.sets.specs.Sets.{size}
 use Rattle.tables.specs.declared.Layout.{Layout}
 use Rattle.tables.specs.declared.Message.{Message}
 use Rattle.tables.specs.Rows.{rows_words, row, with_row}
@@ -31,7 +28,7 @@ module _ (lay : Layout) (m : List ℕ) (at : ℕ) (place : at ≡ slots_at lay) 
   abbrev part : List ℕ
   part = take (length m - at) (drop at m)
 
-  lent : slots_of part ≡ (machine_of lay m).slots
+  pub lent : slots_of part ≡ (machine_of lay m).slots
   unfolding machine_of
   lent = rw (rest_all m at, place)
 
@@ -40,9 +37,6 @@ module _ (lay : Layout) (m : List ℕ) (at : ℕ) (place : at ≡ slots_at lay) 
 
   pub counted : (n : ℕ) → n ≡ empty_slots (slots_of part) → n ≡ empty_slots (machine_of lay m).slots
   counted n e = rw lent at e
-
-  pub roomy : (more to : ℕ) (r : Bool) → r ≡ leb (size to) (empty_slots (slots_of part) + more) → r ≡ leb (size to) (empty_slots (machine_of lay m).slots + more)
-  roomy more to r e = rw lent at e
 
   module _ (ys : List ℕ) (h : Fits lay m) where
     -- what is left of the buffer, where ys came back with other slots

@@ -5,10 +5,10 @@ use mathlib.Core.Bool.{Bool, true, false, not}
 use mathlib.Core.List.{List, []}
 use Prim.Native.Nat.{ℕ, suc, ◌+◌, ◌-◌, ◌^◌, ◌≤◌, ◌<◌}
 use native.Mathlib.Omega.{arith}
-use borrow.Author.Tests.{not-true, not-false, ne_eqb, ltb-false}
-use lib.Dec.{leb, ltb, eqb}
-use lib.ListN.{length, drop}
-use Rattle.sets.specs.Sets.{size}
+use borrow.Author.Tests.{ne_eqb, ltb-false}
+use lib.Dec.{ltb, eqb}
+use lib.ListN.{length, take, drop}
+use lib.Seq.{take_all}
 use Rattle.tables.specs.declared.Layout.{Layout}
 use Rattle.tables.specs.declared.Conf.{Conf}
 use Rattle.tables.specs.declared.Client.{Client}
@@ -22,7 +22,7 @@ use Rattle.tables.proofs.Whole.{whole_of, whole_client}
 use Rattle.tables.proofs.Holds.{Holds, holds_machine, holds_rest}
 use Rattle.mail.specs.declared.Post.{Post}
 use Rattle.mail.specs.Posts.{messages_of}
-use Rattle.mail.specs.Slots.{placed, empty_slots}
+use Rattle.mail.specs.Slots.{placed}
 use Rattle.inspect.specs.Good.{between, is_party}
 use Rattle.inspect.proofs.Facts.{numbers_facts}
 use Rattle.rules.specs.declared.Answer.{Answer}
@@ -32,12 +32,15 @@ use Rattle.machine.specs.Effects.{Effect, client, applied}
 use Rattle.machine.specs.Calls.{start_read, start_write, done, start_effect}
 use Rattle.machine.specs.Refusals.{refusal, no_slot}
 use Rattle.machine.specs.Steps.{Result, refused, effect_of, step}
-use Rattle.machine.specs.Inner.{Ready, Took, Launches, start_code, launch_step, start_step}
+use Rattle.machine.specs.Buffers.{call, Gives}
+use Rattle.machine.specs.declared.refusal.Refusal.{Refusal}
+use Rattle.machine.specs.Told.{number_of}
+use Rattle.machine.specs.Inner.{room_code, Ready, Took, Launches, start_code, launch_step, start_step}
 use Rattle.machine.proofs.Arrivals.{conf_of_lem}
-use Rattle.machine.proofs.Parties.{party_low, party_row, own_party, ready_numbers, numbers_of_lem, client_place}
-use Rattle.machine.proofs.Rooms.{no_slot_lem}
+use Rattle.machine.proofs.Parties.{in_range, own_party, ready_numbers, numbers_of_lem, client_place}
+use Rattle.machine.proofs.Rooms.{crowded, has_slots, lacks_slots}
 use Rattle.machine.proofs.Addressed.{request_few}
-use Rattle.machine.proofs.Steps.{took_nothing}
+use Rattle.machine.proofs.Steps.{took_nothing, call_taken}
 
 pub start_read_lem : (c : ℕ) (M : Machine) → step (start_read c) M ≡ start_step M c 1 no_page
 unfolding step effect_of start_step
@@ -53,24 +56,22 @@ module _ (lay : Layout) (m : List ℕ) (k : Conf) (c : ℕ) (y : Client) (g : La
   pub launch_few : p.to < 2 ^ 16
   launch_few = rw s (request_few lay.directories g.ready.long.few k (numbers_facts lay.directories k g.numbers) c y g.set)
 
-  -- r tells whether there is room
-  module _ (a : Answer) (r : Bool) (x : r ≡ leb (size p.to) (empty_slots (machine_of lay m).slots + 0)) where
-    pub launch_full : not r ≡ true → a ≡ coded 24 → Took lay (launch_step (machine_of lay m) k c y) a [] m m
-    unfolding launch_step
-    launch_full z q =
-        rw (← s, no_slot_lem (machine_of lay m) (client c y) p launch_few r x, z) (took_nothing lay m [] 24 a g.ready.long q)
+  pub launch_full : (r : Refusal) → number_of r ≡ room_code (machine_of lay m) 0 p.to → Took lay (launch_step (machine_of lay m) k c y) (coded (number_of r)) [] m m
+  unfolding launch_step
+  launch_full r x =
+      rw (← s, lacks_slots (machine_of lay m) (client c y) p launch_few r x, (crowded (machine_of lay m) 0 p.to r x).1) (took_nothing lay m [] 24 (coded 24) g.ready.long refl)
 
-    pub launched : (l n : List ℕ) → length y.page ≡ 16 → not r ≡ false → a ≡ coded 0 → l ≡ words (with_client (machine_of lay m) (suc (c - 1)) y) (drop (extent lay) m)
-        → n ≡ words (with_slots (machine_of lay l) (placed (messages_of p) (machine_of lay l).slots)) (drop (extent lay) l)
-        → Took lay (launch_step (machine_of lay m) k c y) a [] m n
-    unfolding launch_step
-    launched l n w z q t u =
-        let row : suc (c - 1) ≡ c = omega (arith, g.low) in
-        let held : Holds lay l (with_client (machine_of lay m) c y) (drop (extent lay) m) =
-        record { is = t ∙ ap (λ (i : ℕ). words (with_client (machine_of lay m) i y) (drop (extent lay) m)) row; whole = whole_client (whole_of lay m g.ready.long.long) c y w; room = its_room lay m } in
-        let after : n ≡ words (with_slots (with_client (machine_of lay m) c y) (placed (messages_of p) (machine_of lay m).slots)) (drop (extent lay) m) =
-        u ∙ rw (holds_machine held, holds_rest held) in
-        rw (← s, no_slot_lem (machine_of lay m) (client c y) p launch_few r x, z) (record { answer = q; page = refl; buffer = after })
+  pub launched : (a : Answer) (l n : List ℕ) → 0 ≡ room_code (machine_of lay m) 0 p.to → length y.page ≡ 16 → a ≡ coded 0 → l ≡ words (with_client (machine_of lay m) (suc (c - 1)) y) (drop (extent lay) m)
+      → n ≡ words (with_slots (machine_of lay l) (placed (messages_of p) (machine_of lay l).slots)) (drop (extent lay) l)
+      → Took lay (launch_step (machine_of lay m) k c y) a [] m n
+  unfolding launch_step
+  launched a l n x w q t u =
+      let row : suc (c - 1) ≡ c = omega (arith, g.low) in
+      let held : Holds lay l (with_client (machine_of lay m) c y) (drop (extent lay) m) =
+      record { is = t ∙ ap (λ (i : ℕ). words (with_client (machine_of lay m) i y) (drop (extent lay) m)) row; whole = whole_client (whole_of lay m g.ready.long.long) c y w; room = its_room lay m } in
+      let after : n ≡ words (with_slots (with_client (machine_of lay m) c y) (placed (messages_of p) (machine_of lay m).slots)) (drop (extent lay) m) =
+      u ∙ rw (holds_machine held, holds_rest held) in
+      rw (← s, has_slots (machine_of lay m) (client c y) p launch_few x) (record { answer = q; page = refl; buffer = after })
 
 -- ---- the ways out of a start
 
@@ -87,33 +88,32 @@ not_worn k w = go (eqb w.down 1) (not (eqb w.phase 0)) (ltb k.top (w.number + 3)
 pub start_able : (lay : Layout) (m : List ℕ) (g : Ready lay m) (k : Conf) (w : Client) (s : ℕ) → k ≡ conf_of m → s ≡ start_code k w → s ≡ 0 → w.number < 4294967295
 start_able lay m g k w s at j z = omega (arith, not_worn k w (sym j ∙ z), (numbers_of_lem lay m g.fine k at).top_fits)
 
-pub launchable : (lay : Layout) (m : List ℕ) (g : Ready lay m) (c phase : ℕ) (page : Page) (k : Conf) (w y : Client) (b : Bool) → k ≡ conf_of m → b ≡ between 1 k.clients c
-    → not b ≡ false → y ≡ started w phase page → Launches lay m k c y
-launchable lay m g c phase page k w y b at e h v =
+pub launchable : (lay : Layout) (m : List ℕ) (g : Ready lay m) (c phase : ℕ) (page : Page) (k : Conf) (w y : Client) (i : ℕ) → k ≡ conf_of m → suc i ≡ c → c ≤ k.clients
+    → y ≡ started w phase page → Launches lay m k c y
+launchable lay m g c phase page k w y i at o h v =
     record {
       ready = g;
       numbers = ready_numbers lay m g.fine k at;
-      low = party_low c k.clients b e h;
-      high = omega (arith, client_place lay m g k at c b h e);
+      low = omega arith;
+      high = omega (arith, client_place i c o lay m g k at h);
       set = rw v (omega arith);
     }
 
--- b tells whether c is a client
-module _ (lay : Layout) (m : List ℕ) (g : Ready lay m) (c phase : ℕ) (page : Page) (k : Conf) (at : k ≡ conf_of m) (b : Bool) (e : b ≡ between 1 k.clients c) (a : Answer) where
+module _ (lay : Layout) (m : List ℕ) (g : Ready lay m) (c phase : ℕ) (page : Page) (k : Conf) (at : k ≡ conf_of m) where
   conf_is : (machine_of lay m).conf ≡ k
   conf_is = sym (at ∙ conf_of_lem lay m)
 
-  party_is : is_party (machine_of lay m).conf AClient c ≡ b
-  party_is = own_party lay m k at AClient c b e
+  party_is : (b : Bool) → between 1 k.clients c ≡ b → is_party (machine_of lay m).conf AClient c ≡ b
+  party_is b e = own_party lay m k at AClient c b (sym e)
 
-  pub start_out : not b ≡ true → a ≡ coded 18 → Took lay (start_step (machine_of lay m) c phase page) a [] m m
+  pub start_out : (r : Refusal) → between 1 k.clients c ≡ false → number_of r ≡ 18 → Took lay (start_step (machine_of lay m) c phase page) (coded (number_of r)) [] m m
   unfolding start_step refusal
-  start_out h q = rw (party_is, not-true b h) (took_nothing lay m [] 18 a g.long q)
+  start_out r h q = rw (party_is false h, q) (took_nothing lay m [] 18 (coded 18) g.long refl)
 
   -- w is its row, s what keeps it from starting
-  module _ (h : not b ≡ false) (w : Client) (f : w ≡ client_at (machine_of lay m) (suc (c - 1))) (s : ℕ) (j : s ≡ start_code k w) where
+  module _ (i : ℕ) (o : suc i ≡ c) (h : c ≤ k.clients) (a : Answer) (w : Client) (f : w ≡ client_at (machine_of lay m) (suc i)) (s : ℕ) (j : s ≡ start_code k w) where
     own_row : client_at (machine_of lay m) c ≡ w
-    own_row = sym (f ∙ ap (client_at (machine_of lay m)) (party_row c k.clients b e h))
+    own_row = sym (f ∙ ap (client_at (machine_of lay m)) o)
 
     stands : start_code (machine_of lay m).conf (client_at (machine_of lay m) c) ≡ s
     stands = ap (λ (q : Conf). start_code q (client_at (machine_of lay m) c)) conf_is ∙ ap (start_code k) own_row ∙ sym j
@@ -129,7 +129,7 @@ module _ (lay : Layout) (m : List ℕ) (g : Ready lay m) (c phase : ℕ) (page :
         ≡ (if eqb s 0 then if no_slot (machine_of lay m) (start_effect (machine_of lay m) c phase page) then 24 else 0 else s)
     unfolding refusal start_code
     code_is =
-        rw (party_is, not-false b h)
+        rw (party_is true (in_range i c o k.clients h))
         (go (eqb (client_at (machine_of lay m) c).down 1) (not (eqb (client_at (machine_of lay m) c).phase 0))
         (ltb (machine_of lay m).conf.top ((client_at (machine_of lay m) c).number + 3)) (sym stands))
       where
@@ -162,3 +162,15 @@ module _ (lay : Layout) (m : List ℕ) (g : Ready lay m) (c phase : ℕ) (page :
         → Took lay (start_step (machine_of lay m) c phase page) a [] m n
     unfolding launch_step
     start_launched n y z v t = rw (step_is z, post_is) (rw v at t)
+
+-- ---- the two calls
+
+pub reads : (lay : Layout) (m : List ℕ) (g : Ready lay m) (c : ℕ) (a : Answer) (p l : List ℕ) → p ≡ no_page → Took lay (start_step (machine_of lay m) c 1 p) a [] m l
+    → Gives (call lay (start_read c) m) a [] l
+reads lay m g c a p l q t = call_taken lay m (start_read c) refl g refl a [] l (rw (start_read_lem c (machine_of lay m)) (rw q at t))
+
+pub writes : (lay : Layout) (m : List ℕ) (g : Ready lay m) (page : List ℕ) → length page ≡ 16 → (c : ℕ) (a : Answer) (p l : List ℕ) → p ≡ take 16 page
+    → Took lay (start_step (machine_of lay m) c 4 p) a [] m l → Gives (call lay (start_write c page) m) a [] l
+writes lay m g page e c a p l q t =
+    let same : p ≡ page = q ∙ take_all 16 page (omega arith) in
+    call_taken lay m (start_write c page) refl g (rw e) a [] l (rw (start_write_lem c page (machine_of lay m)) (rw same at t))

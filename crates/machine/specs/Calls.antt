@@ -1,11 +1,10 @@
 -- The calls, what each asks for, and the effect of each but deliver.
-use Rattle.std.specs.Prelude.{Bool, true, false, ℕ, eqb, List, [], if◌then◌else◌}
-use Rattle.sets.specs.Plain.{Option, none, some}
+use Rattle.std.specs.Prelude.{Bool, true, false, ℕ, eqb, List, [], Option, None, Some, option_map, if◌then◌else◌}
 use Rattle.tables.specs.declared.Conf.{Conf}
 use Rattle.tables.specs.declared.Client.{Client}
 use Rattle.tables.specs.declared.Directory.{Directory}
 use Rattle.tables.specs.declared.Party.{Party}
-use Rattle.tables.specs.declared.Party.TheVariants.{Nobody, AClient, ADirectory, AReplica}
+use Rattle.tables.specs.declared.Party.TheVariants.{AClient, ADirectory, AReplica}
 use Rattle.tables.specs.Tables.{Page, Replica, Machine, client_at, directory_at, replica_at, down_word}
 use Rattle.mail.specs.declared.Post.{Post}
 use Rattle.mail.specs.Posts.{no_post}
@@ -27,12 +26,12 @@ pub data Call : Type 0 where
 -- ---- what a call asks for
 
 -- a party's kind: 1 client, 2 directory, 3 replica
-unfoldable pub party_of : ℕ → Party
+unfoldable pub party_of : ℕ → Option Party
 party_of kind =
-    if eqb kind 1 then AClient
-    else if eqb kind 2 then ADirectory
-    else if eqb kind 3 then AReplica
-    else Nobody
+    if eqb kind 1 then Some AClient
+    else if eqb kind 2 then Some ADirectory
+    else if eqb kind 3 then Some AReplica
+    else None
 
 -- an operation of a client
 pub data Start : Type 0 where
@@ -54,19 +53,19 @@ pub record Asks : Type 0 where
 
 -- one row a call; `none` where the paper asks nothing of the kind
 abbrev pub asks : Call → Asks
-asks (set_up k page) = record { anew = true; page = some page; fill = []; up = none; start = none; slot = none; delivered = none }
-asks (start_read c) = record { anew = false; page = none; fill = []; up = some (AClient, c); start = some (a_read c); slot = none; delivered = none }
-asks (start_write c page) = record { anew = false; page = some page; fill = []; up = some (AClient, c); start = some (a_write c page); slot = none; delivered = none }
-asks (deliver s page) = record { anew = false; page = some page; fill = page; up = none; start = none; slot = some s; delivered = some s }
-asks (gossip from to) = record { anew = false; page = none; fill = []; up = some (AReplica, from); start = none; slot = none; delivered = none }
-asks (tidy r) = record { anew = false; page = none; fill = []; up = some (AReplica, r); start = none; slot = none; delivered = none }
-asks (crash kind id) = record { anew = false; page = none; fill = []; up = some (party_of kind, id); start = none; slot = none; delivered = none }
-asks report = record { anew = false; page = none; fill = []; up = none; start = none; slot = none; delivered = none }
+asks (set_up k page) = record { anew = true; page = Some page; fill = []; up = None; start = None; slot = None; delivered = None }
+asks (start_read c) = record { anew = false; page = None; fill = []; up = Some (AClient, c); start = Some (a_read c); slot = None; delivered = None }
+asks (start_write c page) = record { anew = false; page = Some page; fill = []; up = Some (AClient, c); start = Some (a_write c page); slot = None; delivered = None }
+asks (deliver s page) = record { anew = false; page = Some page; fill = page; up = None; start = None; slot = Some s; delivered = Some s }
+asks (gossip from to) = record { anew = false; page = None; fill = []; up = Some (AReplica, from); start = None; slot = None; delivered = None }
+asks (tidy r) = record { anew = false; page = None; fill = []; up = Some (AReplica, r); start = None; slot = None; delivered = None }
+asks (crash kind id) = record { anew = false; page = None; fill = []; up = option_map (λ who. (who, id)) (party_of kind); start = None; slot = None; delivered = None }
+asks report = record { anew = false; page = None; fill = []; up = None; start = None; slot = None; delivered = None }
 
 -- the test holds of what is asked for
 abbrev pub asked : {A : Type 0} → (A → Bool) → Option A → Bool
-asked test none = false
-asked test (some a) = test a
+asked test None = false
+asked test (Some a) = test a
 
 -- ---- effects
 
@@ -104,11 +103,12 @@ down_client w =
 abbrev pub down_directory : Directory → Directory
 down_directory d = record { down = 1; tag = d.tag; set = d.set }
 
-abbrev pub downed : Machine → Party → ℕ → Change
-downed M Nobody p = nothing
-downed M AClient p = client p (down_client (client_at M p))
-downed M ADirectory p = directory p (down_directory (directory_at M p))
-downed M AReplica p = replica p (record { down = 1; entries = (replica_at M p).entries })
+-- nothing where no party is named
+abbrev pub downed : Machine → Option Party → ℕ → Change
+downed M None p = nothing
+downed M (Some AClient) p = client p (down_client (client_at M p))
+downed M (Some ADirectory) p = directory p (down_directory (directory_at M p))
+downed M (Some AReplica) p = replica p (record { down = 1; entries = (replica_at M p).entries })
 
 unfoldable pub crash_effect : Machine → ℕ → ℕ → Effect
 crash_effect M kind id = done (downed M (party_of kind) id) no_post

@@ -1,10 +1,10 @@
 -- Deliver: the message in a slot is removed, and its receiver takes it by its rule.
-use Rattle.std.specs.Prelude.{ℕ, [], ◌∷◌, if◌then◌else◌}
+use Rattle.std.specs.Prelude.{ℕ, [], ◌∷◌, Option, None, Some, if◌then◌else◌}
 use Rattle.tables.specs.declared.Client.{Client}
 use Rattle.tables.specs.declared.Directory.{Directory}
 use Rattle.tables.specs.declared.Message.{Message}
 use Rattle.tables.specs.declared.Party.{Party}
-use Rattle.tables.specs.declared.Party.TheVariants.{Nobody, AClient, ADirectory, AReplica}
+use Rattle.tables.specs.declared.Party.TheVariants.{AClient, ADirectory, AReplica}
 use Rattle.tables.specs.Tables.{Page, Replica, Machine, client_at, directory_at, replica_at, slot_at}
 use Rattle.tables.specs.Kinds.{receiver_of}
 use Rattle.mail.specs.declared.Post.{Post}
@@ -15,7 +15,7 @@ use Rattle.rules.specs.Answers.{coded, answer_of}
 use Rattle.rules.specs.Directory.{directory_after, directory_post}
 use Rattle.rules.specs.Replica.{replica_after, replica_post}
 use Rattle.rules.specs.Client.{outcome, client_after, client_post}
-use Rattle.machine.specs.Calls.{is_down, emptying}
+use Rattle.machine.specs.Calls.{asked, is_down, emptying}
 use Rattle.machine.specs.Effects.{Change, client, directory, replica, Effect}
 
 -- slot s is emptied
@@ -50,16 +50,17 @@ replica_effect M s x page =
     taken s (replica x.receiver (record { down = r.down; entries = replica_after r.entries x }))
     (replica_post M.conf.directories r.entries x) (coded 0) page
 
-abbrev pub received : Party → Machine → ℕ → Message → Page → Effect
-received Nobody M s x page = emptying (s ∷ []) 0 page
-received AClient M s x page = client_effect M s x page
-received ADirectory M s x page = directory_effect M s x page
-received AReplica M s x page = replica_effect M s x page
+-- with no receiver, the slot is emptied and no more
+abbrev pub received : Option Party → Machine → ℕ → Message → Page → Effect
+received None M s x page = emptying (s ∷ []) 0 page
+received (Some AClient) M s x page = client_effect M s x page
+received (Some ADirectory) M s x page = directory_effect M s x page
+received (Some AReplica) M s x page = replica_effect M s x page
 
 -- DROPPED: "receiver down; the message is removed"
 unfoldable pub deliver_effect : Machine → ℕ → Page → Effect
 deliver_effect M s page =
     let x : Message = slot_at M s in
-    let who : Party = receiver_of x.kind in
-    if is_down M who x.receiver then emptying (s ∷ []) 4 page
+    let who : Option Party = receiver_of x.kind in
+    if asked (λ party. is_down M party x.receiver) who then emptying (s ∷ []) 4 page
     else received who M s x page

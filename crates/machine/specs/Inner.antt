@@ -1,5 +1,6 @@
 -- What the inner functions ask and give. Nothing of the paper stands here.
-use Rattle.std.specs.Prelude.{Bool, true, not, ◌||◌, ◌&&◌, List, [], ◌∷◌, ◌≡◌, ℕ, suc, ◌+◌, ◌^◌, ◌≤◌, ◌<◌, zero, ◌*◌, leb, ltb, eqb, length, drop, set, get_or, replicate, if◌then◌else◌}
+use Rattle.std.specs.Prelude.{Bool, true, false, not, ◌||◌, List, [], ◌∷◌, ◌≡◌, ℕ, suc, ◌+◌, ◌^◌, ◌≤◌, ◌<◌, zero, ◌*◌, leb, ltb, eqb, length, drop, set, get_or, replicate, Some, Result, Ok, Err, ⊤, nat_eq, count_by, if◌then◌else◌}
+use Rattle.std.specs.List.{range_with_len}
 use Rattle.sets.specs.Sets.{size}
 use Rattle.tables.specs.declared.Layout.{Layout}
 use Rattle.tables.specs.Layouts.{extent}
@@ -11,7 +12,7 @@ use Rattle.tables.specs.declared.Message.{Message}
 use Rattle.tables.specs.declared.Party.{Party}
 use Rattle.tables.specs.Tables.{Page, Replica, Machine, no_message, replica_at, slot_at, with_slots, no_client, no_directory, no_replica, with_replica}
 use Rattle.tables.specs.Words.{words}
-use Rattle.tables.specs.Machines.{machine_of, rows_of}
+use Rattle.tables.specs.Machines.{machine_of}
 use Rattle.tables.specs.Kinds.{receiver_of, many_of}
 use Rattle.inspect.specs.Good.{good, between, good_numbers}
 use Rattle.rules.specs.declared.Answer.{Answer}
@@ -24,25 +25,51 @@ use Rattle.rules.specs.Inner.{Sender, AfterAble, Few}
 use Rattle.mail.specs.Slots.{placed, empty_slots}
 use Rattle.machine.specs.Effects.{Change, changed, Effect, client}
 use Rattle.machine.specs.Calls.{deliver, start_read, done, start_effect}
-use Rattle.machine.specs.Steps.{Result, refused, accepted, step, waiting, parties_down}
+use Rattle.machine.specs.Steps as steps
+use Rattle.machine.specs.Steps.{refused, accepted, step, waiting, parties_down}
 use Rattle.tables.specs.declared.Directory.{Directory}
 use Rattle.tables.specs.Rows.{with_row}
 use Rattle.tables.specs.Phases.{is_idle}
 use Rattle.rules.specs.Replica.{tidied}
 use Rattle.machine.specs.Refusals.{no_slot, refusal}
 use Rattle.machine.specs.declared.Counts.{Counts}
+use Rattle.machine.specs.declared.refusal.Refusal.{Refusal}
+use Rattle.machine.specs.Told.{number_of}
 
--- 16, 17 or 0, where the call's page has n words (16 where it has none)
+-- 16 or 0, where the call's page has n words (16 where it has none)
+unfoldable pub size_code : Layout → List ℕ → ℕ → ℕ
+size_code lay m n = if ltb (length m) (extent lay) || not (eqb n 16) then 16 else 0
+
+-- 16, 17 or 0
 unfoldable pub buffer_code : Layout → List ℕ → ℕ → ℕ
 buffer_code lay m n = if ltb (length m) (extent lay) || not (eqb n 16) then 16 else if not (good lay m) then 17 else 0
+
+-- 24 or 0: a message to each of the set has room once `more` slots are emptied
+unfoldable pub room_code : Machine → ℕ → ℕ → ℕ
+room_code M more to = if leb (size to) (empty_slots M.slots + more) then 0 else 24
 
 -- a buffer on which a step is taken
 pub record Ready (lay : Layout) (m : List ℕ) : Type 0 where
   pub long : Fits lay m
   pub fine : good lay m ≡ true
 
+-- what `ask_size` found: a buffer and a page that are long enough, or SIZE
+abbrev pub Sized : Layout → List ℕ → ℕ → Result ⊤ Refusal → Type 0
+Sized lay m n (Ok u) = Fits lay m × (n ≡ 16)
+Sized lay m n (Err r) = number_of r ≡ size_code lay m n
+
+-- what `ask` found: such a buffer and a page of 16 words, or the first refusal
+abbrev pub Asked : Layout → List ℕ → ℕ → Result ⊤ Refusal → Type 0
+Asked lay m n (Ok u) = Ready lay m × (n ≡ 16)
+Asked lay m n (Err r) = number_of r ≡ buffer_code lay m n
+
+-- what `place` found: where number id of n stands, or BAD ARGUMENT
+abbrev pub Placed : ℕ → ℕ → Result ℕ Refusal → Type 0
+Placed n id (Ok i) = (suc i ≡ id) × (id ≤ n)
+Placed n id (Err r) = (between 1 n id ≡ false) × (number_of r ≡ 18)
+
 -- the step r is what answer a, page p and the buffer n show of it; the buffer was m
-pub record Took (lay : Layout) (r : Result) (a : Answer) (p m n : List ℕ) : Type 0 where
+pub record Took (lay : Layout) (r : steps.Result) (a : Answer) (p m n : List ℕ) : Type 0 where
   pub answer : a ≡ r.answer
   pub page : p ≡ r.page
   pub buffer : n ≡ words r.machine (drop (extent lay) m)
@@ -90,15 +117,9 @@ pub record RowsIn (l : List ℕ) (w n : ℕ) : Type 0 where
   pub few : n ≤ 16
   pub within : n * w ≤ length l
 
-abbrev pub is_one : ℕ → Bool
-is_one v = eqb v 1
-
-abbrev pub first_word : List ℕ → ℕ
-first_word l = get_or l 0 0
-
--- the first word of each row
-unfoldable pub first_words : List ℕ → ℕ → ℕ → List ℕ
-first_words l w n = rows_of first_word n w l
+-- how many of n rows of w words begin with 1
+unfoldable pub rows_down : List ℕ → ℕ → ℕ → ℕ
+rows_down l w n = count_by (λ i. nat_eq (get_or l (i * w) 0) 1) (range_with_len 0 n)
 
 abbrev pub counts : Machine → Counts
 counts M = record { code = 0; waiting = waiting M; down = parties_down M }
@@ -110,10 +131,6 @@ abbrev pub with_tidied : Machine → ℕ → Machine
 with_tidied M r = with_replica M r (record { down = (replica_at M r).down; entries = tidied (replica_at M r).entries })
 
 -- ---- gossip
-
--- two different parties of n
-abbrev pub two_of : ℕ → ℕ → ℕ → Bool
-two_of n p q = between 1 n p && between 1 n q && not (eqb p q)
 
 -- a replica of the buffer, counted from 0, and a receiver
 pub record Gossips (lay : Layout) (m : List ℕ) (i to : ℕ) : Type 0 where
@@ -132,7 +149,7 @@ start_code k w =
     else 0
 
 -- the row y of client c and the request of its phase, where there is room
-unfoldable pub launch_step : Machine → Conf → ℕ → Client → Result
+unfoldable pub launch_step : Machine → Conf → ℕ → Client → steps.Result
 launch_step M k c y =
     let e : Effect = done (client c y) (request k c y) in
     if no_slot M e then refused 24 [] M else accepted e M
@@ -145,7 +162,7 @@ pub record Launches (lay : Layout) (m : List ℕ) (k : Conf) (c : ℕ) (y : Clie
   pub set : y.replicas < 2 ^ 16
 
 -- start read in phase 1, start write in phase 4: one step for both
-unfoldable pub start_step : Machine → ℕ → ℕ → Page → Result
+unfoldable pub start_step : Machine → ℕ → ℕ → Page → steps.Result
 start_step M c phase page =
     let e : Effect = start_effect M c phase page in
     let code : ℕ = refusal (start_read c) M e in
@@ -160,7 +177,7 @@ pub record Arrived (lay : Layout) (who : Party) (m : List ℕ) (s : ℕ) (x : Me
   pub slot : s < 128
   pub here : x ≡ slot_at (machine_of lay m) (suc s)
   pub some : x.kind ≡ 0 → ⊥
-  pub whose : receiver_of x.kind ≡ who
+  pub whose : receiver_of x.kind ≡ Some who
   pub sender : Sender x.sender
   pub few : x.sender ≤ 16
   pub set : x.set < 2 ^ 16

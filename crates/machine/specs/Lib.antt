@@ -1,4 +1,4 @@
--- The machine's calls, document 01, "Steps" and "What a call hands back". A reader must believe all but Rehearsal, the worked example, and Inner, which may change with the code.
+-- The machine's calls, document 01, "Steps" and "What a call hands back". A reader must believe all but Rehearsal, the worked example, and Told and Inner, which may change with the code.
 pub mod SetUp
 pub mod Effects
 pub mod Calls
@@ -6,5 +6,6 @@ pub mod Deliver
 pub mod Refusals
 pub mod Steps
 pub mod Buffers
+pub mod Told
 pub mod Inner
 pub mod Rehearsal

@@ -7,7 +7,7 @@ use Rattle.tables.specs.Tables.{Machine, client_at, replica_at, slot_at, is_empt
 use Rattle.tables.specs.Phases.{is_idle}
 use Rattle.mail.specs.Posts.{messages_of}
 use Rattle.mail.specs.Slots.{freed, empty_slots}
-use Rattle.inspect.specs.Good.{between, good_numbers, is_party}
+use Rattle.inspect.specs.Good.{between, good_numbers, is_party, is_named_party}
 use Rattle.rules.specs.Replica.{is_full}
 use Rattle.machine.specs.Effects.{Effect}
 use Rattle.machine.specs.Calls.{Call, set_up, start_read, start_write, deliver, gossip, tidy, crash, report, party_of, starter, asks, asked, is_down}
@@ -21,7 +21,7 @@ bad_argument (deliver s page) M = not (between 1 128 s)
 bad_argument (gossip from to) M =
     not (is_party M.conf AReplica from) || not (is_party M.conf AReplica to) || eqb from to
 bad_argument (tidy r) M = not (is_party M.conf AReplica r)
-bad_argument (crash kind id) M = not (is_party M.conf (party_of kind) id)
+bad_argument (crash kind id) M = not (is_named_party M.conf (party_of kind) id)
 bad_argument report M = false
 
 -- 19 DOWN: "starter, gossip sender, tidied or crashed party is down"

@@ -1,31 +1,26 @@
 // Report: waiting messages and parties down.
-ghost use Rattle.std.specs.Prelude.{◌≡◌};
+ghost use Rattle.std.specs.Prelude.{◌≡◌, ◌≤◌};
 ghost use Rattle.tables.specs.Inner.{Fits};
-ghost use Rattle.tables.specs.Rows.{count};
 ghost use Rattle.tables.specs.Machines.{machine_of};
-ghost use Rattle.machine.specs.Inner.{RowsIn, is_one, first_words, counts};
+ghost use Rattle.machine.specs.Told.{told_counts};
+ghost use Rattle.machine.specs.Buffers.{reported};
+ghost use Rattle.machine.specs.Inner.{RowsIn, rows_down, counts};
 
-use crate::{Counts, send};
+use crate::refusal::Refusal;
+use crate::{Counts, codes, send};
 use tables::{Layout, places, rows};
 
 // How many of n rows of w words begin with 1.
+#[tactic(auto, unfolding(crate::specs::Inner::rows_down))]
 fn down_rows(l: &[u32], w: usize, n: usize) -> u32
     requires { RowsIn l.now w n }
-    ensures { result ≡ count is_one (first_words l.now w n) }
+    ensures { result ≡ rows_down l.now w n }
 {
-    let mut d: u32 = 0;
-    let mut i: usize = 0;
-    while i < n {
-        if l[i * w] == 1 {
-            d += 1;
-        }
-        i += 1;
-    }
-    d
+    (0..n).filter(|i| l[*i * w] == 1).count() as u32
 }
 
 // The counts of a machine.
-pub(crate) fn report_good(lay: Layout, m: &[u32]) -> Counts
+fn counts(lay: Layout, m: &[u32]) -> Counts
     requires { Fits lay m.now }
     ensures { result ≡ counts (machine_of lay m.now) }
 {
@@ -43,4 +38,13 @@ pub(crate) fn report_good(lay: Layout, m: &[u32]) -> Counts
         waiting: (128 - empty) as u32,
         down: clients + directories + replicas,
     }
+}
+
+// Waiting messages and parties down.
+pub(crate) fn report(lay: Layout, m: &[u32]) -> Result<Counts, Refusal>
+    requires { lay.directories ≤ 16 }
+    ensures { told_counts result ≡ reported lay m.now }
+{
+    codes::ask(lay, m, 16)?;
+    Ok(counts(lay, m))
 }

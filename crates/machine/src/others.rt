@@ -1,5 +1,5 @@
-// Gossip, tidy and crash, on a machine that is not bad.
-ghost use Rattle.std.specs.Prelude.{◌≡◌, [], suc, ◌<◌, drop};
+// Gossip, tidy and crash.
+ghost use Rattle.std.specs.Prelude.{◌≡◌, [], suc, ◌≤◌, ◌<◌, drop};
 ghost use Rattle.tables.specs.Layouts.{extent};
 ghost use Rattle.tables.specs.Inner.{Fits};
 ghost use Rattle.tables.specs.Tables.{replica_at};
@@ -8,24 +8,25 @@ ghost use Rattle.tables.specs.Machines.{machine_of};
 ghost use Rattle.tables.specs.Kinds.{many_of};
 ghost use Rattle.rules.specs.Replica.{gossip_post};
 ghost use Rattle.machine.specs.Calls.{gossip, tidy, crash, party_of};
-ghost use Rattle.machine.specs.Steps.{step};
-ghost use Rattle.machine.specs.Inner.{Ready, Took, Gossips, two_of, with_tidied};
+ghost use Rattle.machine.specs.Buffers.{call, Gives};
+ghost use Rattle.machine.specs.Told.{told};
+ghost use Rattle.machine.specs.Inner.{Gossips, with_tidied};
 
-use crate::send;
-use inspect::fields;
+use crate::refusal::Refusal;
+use crate::{codes, send};
 use mail::Post;
 use rules::{Answer, answers};
 use tables::{Conf, Layout, Party, places, rows};
 
-// The kind of party that a number names.
-fn party_of(kind: u32) -> Party
+// The kind of party that a number names. (A `TryFrom` would have an error with nothing in it.)
+fn party_of(kind: u32) -> Option<Party>
     ensures { result ≡ party_of kind }
 {
     match kind {
-        1 => Party::AClient,
-        2 => Party::ADirectory,
-        3 => Party::AReplica,
-        _ => Party::Nobody,
+        1 => Some(Party::AClient),
+        2 => Some(Party::ADirectory),
+        3 => Some(Party::AReplica),
+        _ => None,
     }
 }
 
@@ -34,7 +35,6 @@ fn many_of(k: Conf, who: Party) -> u32
     ensures { result ≡ many_of k who }
 {
     match who {
-        Party::Nobody => 0,
         Party::AClient => k.clients,
         Party::ADirectory => k.directories,
         Party::AReplica => k.replicas,
@@ -42,21 +42,21 @@ fn many_of(k: Conf, who: Party) -> u32
 }
 
 // Crash of a party: 1 client, 2 directory, 3 replica.
-pub(crate) fn crash_good(lay: Layout, m: &mut [u32], kind: u32, id: u32) -> Answer
-    requires { Ready lay m.old }
-    ensures { Took lay (step (crash kind id) (machine_of lay m.old)) result [] m.old m.new }
+pub(crate) fn crash(lay: Layout, m: &mut [u32], kind: u32, id: u32) -> Result<Answer, Refusal>
+    requires { lay.directories ≤ 16 }
+    ensures { Gives (call lay (crash kind id) m.old) (told result) [] m.new }
 {
+    codes::ask(lay, m, 16)?;
     let k = rows::conf_at(m);
-    let who = party_of(kind);
-    if !fields::is_between(1, many_of(k, who), id) {
-        return answers::coded(18);
-    }
-    let i = (id - 1) as usize;
+    let Some(who) = party_of(kind) else {
+        return Err(Refusal::BadArgument);
+    };
+    let i = codes::place(many_of(k, who), id)?;
     if places::down(lay, m, who, i) == 1 {
-        return answers::coded(19);
+        return Err(Refusal::Down);
     }
     places::set_down(lay, m, who, i, 1);
-    answers::coded(0)
+    Ok(answers::coded(0))
 }
 
 // Tidy at replica i, counted from 0.
@@ -68,23 +68,22 @@ fn tidy_replica(lay: Layout, m: &mut [u32], i: usize)
     rules::tidy::tidy_in(&mut m[at..]);
 }
 
-pub(crate) fn tidy_good(lay: Layout, m: &mut [u32], r: u32) -> Answer
-    requires { Ready lay m.old }
-    ensures { Took lay (step (tidy r) (machine_of lay m.old)) result [] m.old m.new }
+pub(crate) fn tidy(lay: Layout, m: &mut [u32], r: u32) -> Result<Answer, Refusal>
+    requires { lay.directories ≤ 16 }
+    ensures { Gives (call lay (tidy r) m.old) (told result) [] m.new }
 {
+    codes::ask(lay, m, 16)?;
     let k = rows::conf_at(m);
-    if !fields::is_between(1, k.replicas, r) {
-        return answers::coded(18);
-    }
-    let i = (r - 1) as usize;
+    let i = codes::place(k.replicas, r)?;
     if places::down(lay, m, Party::AReplica, i) == 1 {
-        return answers::coded(19);
+        return Err(Refusal::Down);
     }
     tidy_replica(lay, m, i);
-    answers::coded(0)
+    Ok(answers::coded(0))
 }
 
 // What replica i, counted from 0, sends by gossip.
+#[tactic(auto, using(crate::proofs::Stored::entries_in))]
 fn gossip_post(lay: Layout, m: &[u32], i: usize, from: u32, to: u32) -> Post
     requires { Gossips lay m.now i to }
     ensures { result ≡ gossip_post (replica_at (machine_of lay m.now) (suc i)).entries from to }
@@ -93,29 +92,22 @@ fn gossip_post(lay: Layout, m: &[u32], i: usize, from: u32, to: u32) -> Post
     rules::replica::gossip(&m[at..], from, to)
 }
 
-// Two of n replicas.
-fn two_of(n: u32, from: u32, to: u32) -> bool
-    ensures { result ≡ two_of n from to }
+pub(crate) fn gossip(lay: Layout, m: &mut [u32], from: u32, to: u32) -> Result<Answer, Refusal>
+    requires { lay.directories ≤ 16 }
+    ensures { Gives (call lay (gossip from to) m.old) (told result) [] m.new }
 {
-    fields::is_between(1, n, from) & fields::is_between(1, n, to) & (from != to)
-}
-
-pub(crate) fn gossip_good(lay: Layout, m: &mut [u32], from: u32, to: u32) -> Answer
-    requires { Ready lay m.old }
-    ensures { Took lay (step (gossip from to) (machine_of lay m.old)) result [] m.old m.new }
-{
+    codes::ask(lay, m, 16)?;
     let k = rows::conf_at(m);
-    if !two_of(k.replicas, from, to) {
-        return answers::coded(18);
+    let sender = codes::place(k.replicas, from)?;
+    let receiver = codes::place(k.replicas, to)?;
+    if sender == receiver {
+        return Err(Refusal::BadArgument);
     }
-    let i = (from - 1) as usize;
-    if places::down(lay, m, Party::AReplica, i) == 1 {
-        return answers::coded(19);
+    if places::down(lay, m, Party::AReplica, sender) == 1 {
+        return Err(Refusal::Down);
     }
-    let p = gossip_post(lay, m, i, from, to);
-    if !send::room(lay, m, 0, p.to) {
-        return answers::coded(24);
-    }
+    let p = gossip_post(lay, m, sender, from, to);
+    send::ask_room(lay, m, 0, p.to)?;
     send::send(lay, m, p);
-    answers::coded(0)
+    Ok(answers::coded(0))
 }

@@ -7,9 +7,12 @@ ghost use Rattle.tables.specs.Words.{words};
 ghost use Rattle.tables.specs.Machines.{machine_of};
 ghost use Rattle.machine.specs.Calls.{set_up};
 ghost use Rattle.machine.specs.SetUp.{new_machine};
-ghost use Rattle.machine.specs.Steps.{step};
-ghost use Rattle.machine.specs.Inner.{Took, blank, with_directories, with_replicas};
+ghost use Rattle.machine.specs.Buffers.{call, Gives};
+ghost use Rattle.machine.specs.Told.{told};
+ghost use Rattle.machine.specs.Inner.{blank, with_directories, with_replicas};
 
+use crate::codes;
+use crate::refusal::Refusal;
 use inspect::fields;
 use rules::{Answer, answers};
 use sets::FIRST;
@@ -21,14 +24,11 @@ fn zero(lay: Layout, m: &mut [u32])
     ensures { m.new ≡ replicate (extent lay) 0 ++ drop (extent lay) m.old }
 {
     let end = places::extent(lay);
-    let mut i = 0;
-    while i < end {
-        m[i] = 0;
-        i += 1;
-    }
+    m[..end].fill(0);
 }
 
 // Zeroes all but the numbers.
+#[tactic(auto, using(crate::proofs::Laid::cleared))]
 fn clear(lay: Layout, m: &mut [u32], k: Conf)
     requires { Fits lay m.old }
     ensures { m.new ≡ words (blank lay.directories k) (drop (extent lay) m.old) }
@@ -47,15 +47,13 @@ fn clear(lay: Layout, m: &mut [u32], k: Conf)
     rows::copy_in(m, &head);
 }
 
-// The first n directories get the row x.
+// The first n directories get the row x. Each table has a writer of its own, so each has its loop.
 fn directories(lay: Layout, m: &mut [u32], n: u32, x: Directory)
     requires { Fits lay m.old × (n ≤ lay.directories) }
     ensures { m.new ≡ words (with_directories (machine_of lay m.old) n x) (drop (extent lay) m.old) }
 {
-    let mut i: usize = 0;
-    while i < n as usize {
+    for i in 0..n as usize {
         places::set_directory(lay, m, i, x);
-        i += 1;
     }
 }
 
@@ -64,10 +62,8 @@ fn replicas(lay: Layout, m: &mut [u32], n: u32, x: Entry)
     requires { Fits lay m.old × (n ≤ 7) }
     ensures { m.new ≡ words (with_replicas (machine_of lay m.old) n x) (drop (extent lay) m.old) }
 {
-    let mut i: usize = 0;
-    while i < n as usize {
+    for i in 0..n as usize {
         places::set_entry(lay, m, i, 0, x);
-        i += 1;
     }
 }
 
@@ -92,14 +88,14 @@ fn lay_out(lay: Layout, m: &mut [u32], k: Conf, page: [u32; 16])
     replicas(lay, m, k.replicas, e);
 }
 
-// Set-up on a buffer that is long enough, whatever it holds.
-pub(crate) fn set_up_long(lay: Layout, m: &mut [u32], k: Conf, page: [u32; 16]) -> Answer
-    requires { Fits lay m.old }
-    ensures { Took lay (step (set_up k page) (machine_of lay m.old)) result [] m.old m.new }
+pub(crate) fn set_up(lay: Layout, m: &mut [u32], k: Conf, page: &[u32]) -> Result<Answer, Refusal>
+    requires { lay.directories ≤ 16 }
+    ensures { Gives (call lay (set_up k page.now) m.old) (told result) [] m.new }
 {
+    codes::ask_size(lay, m, page.len())?;
     if !fields::numbers(lay.directories as u32, k) {
-        return answers::coded(18);
+        return Err(Refusal::BadArgument);
     }
-    lay_out(lay, m, k, page);
-    answers::coded(0)
+    lay_out(lay, m, k, rows::page_at(page));
+    Ok(answers::coded(0))
 }

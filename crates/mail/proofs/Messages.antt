@@ -1,21 +1,20 @@
 -- Messages sent, slots freed, filled and counted: what holds of each.
 use Rattle.std.specs.Prelude.{if◌then◌else◌}
-use mathlib.Core.Path.{◌≡◌, refl, ap, ◌∙◌}
+use mathlib.Core.Path.{◌≡◌, refl, ◌∙◌}
 use mathlib.Core.Bool.{Bool, true, false}
 use mathlib.Core.List.{List, [], ◌∷◌, map, Memᴰ}
 use Prim.Native.Nat.{ℕ, zero, suc, ◌+◌, ◌^◌, ◌≤◌, ◌<◌}
 use native.Mathlib.Nat.{le_of_suc-le-suc, not-suc-le-zero}
 use native.Mathlib.Omega.{arith}
-use lib.ListN.{length, get_or, set, length-map, length-set}
+use lib.ListN.{length, get_or, set, length-map}
 use Rattle.sets.specs.Sets.{size, members}
 use Rattle.sets.specs.Inner.{◌∈◌}
 use Rattle.sets.proofs.Members.{length_members, members_in}
 use Rattle.tables.specs.declared.Message.{Message}
 use Rattle.tables.specs.Rows.{with_row, count, put_first}
-use Rattle.tables.specs.Inner.{before}
 use Rattle.tables.specs.Tables.{no_message, is_empty}
 use Rattle.tables.proofs.All.{All, none, cons, all_with_row, length_with_row}
-use Rattle.tables.proofs.Lists.{put_first_set, all_put_first}
+use Rattle.tables.proofs.Lists.{length_put_first, all_put_first}
 use Rattle.tables.proofs.Whole.{Paged, blank_message}
 use Rattle.mail.specs.declared.Post.{Post}
 use Rattle.mail.specs.Posts.{to_receiver, no_post, messages_of}
@@ -78,8 +77,7 @@ module _ (P : Message → Type 0) where
 
 pub length_placed : (xs ss : List Message) → length (placed xs ss) ≡ length ss
 length_placed [] ss = refl
-length_placed (x ∷ xs) ss =
-    length_placed xs (put_first is_empty x ss) ∙ ap length (put_first_set is_empty x ss) ∙ length-set ss (before is_empty ss) x
+length_placed (x ∷ xs) ss = length_placed xs (put_first is_empty x ss) ∙ length_put_first is_empty x ss
 
 -- ---- 128 messages with pages of 16 words
 

@@ -1,21 +1,22 @@
 -- Messages enter the slots one by one: one message, and the loop over a set.
-use mathlib.Core.Path.{◌≡◌, refl, sym, ap, ◌∙◌}
+use Rattle.std.specs.Prelude.{Some, None, position}
+use mathlib.Core.Bool.{true, false}
+use mathlib.Core.Path.{◌≡◌, sym, ap, ◌∙◌}
 use mathlib.Core.List.{List, [], ◌∷◌, map}
-use Prim.Native.Nat.{ℕ, zero, suc, ◌+◌, ◌-◌, ◌/◌, ◌%◌, ◌^◌, ◌≤◌, ◌<◌}
+use Prim.Native.Nat.{ℕ, suc, ◌+◌, ◌-◌, ◌^◌, ◌≤◌, ◌<◌}
 use native.Mathlib.Numerals.{add-one}
 use native.Mathlib.Omega.{arith}
-use lib.Arith.{lt-one}
-use lib.ListN.{length, set}
-use lib.Seq.{set_out}
-use Rattle.sets.proofs.Digits.{half_lt}
-use Rattle.sets.proofs.Members.{halves, halves_in, halves_out, halves_none, members_halves}
+use lib.Count.{count_leading_zeros, leading_length}
+use lib.ListN.{length}
+use Rattle.sets.specs.Plain.{keep, numbers}
+use Rattle.sets.specs.Sets.{has, members}
+use Rattle.sets.proofs.Members.{members_wide}
 use Rattle.tables.specs.declared.Message.{Message}
 use Rattle.tables.specs.Rows.{with_row, put_first}
-use Rattle.tables.specs.Inner.{before}
 use Rattle.tables.specs.Tables.{is_empty}
 use Rattle.tables.specs.Machines.{slots_of}
 use Rattle.tables.proofs.All.{none, cons}
-use Rattle.tables.proofs.Lists.{put_first_set}
+use Rattle.tables.proofs.Lists.{position_lt, put_first_some, put_first_none}
 use Rattle.tables.proofs.Read.{slots_many}
 use Rattle.tables.proofs.Whole.{Paged}
 use Rattle.mail.specs.declared.Post.{Post}
@@ -35,77 +36,66 @@ sent_twice l xs ys h p q =
     let k : Mail (placed xs (slots_of l)) = mail_placed p (mail_read l h) in
     rw (slots_back l (placed xs (slots_of l)) k) (mail_twice l k (mail_placed q k))
 
--- ---- one message; s is the lowest empty slot
-module _ (l : List ℕ) (x : Message) (s : ℕ) (e : s ≡ before is_empty (slots_of l)) where
-  first_set : put_first is_empty x (slots_of l) ≡ set (slots_of l) s x
-  first_set = rw (put_first_set is_empty x (slots_of l), e)
+-- ---- one message, into the lowest empty slot
+module _ (l : List ℕ) (x : Message) where
+  pub slot_inside : (s : ℕ) → Some s ≡ position is_empty (slots_of l) → s < 128
+  slot_inside s e = rw (slots_many l) at (position_lt is_empty (slots_of l) e)
 
-  pub entered : (m : List ℕ) → m ≡ with_mail l (with_row (slots_of l) (suc s) x) → m ≡ with_mail l (put_first is_empty x (slots_of l))
-  entered m h = rw first_set h
+  pub entered : (s : ℕ) (m : List ℕ) → Some s ≡ position is_empty (slots_of l) → m ≡ with_mail l (with_row (slots_of l) (suc s) x)
+      → m ≡ with_mail l (put_first is_empty x (slots_of l))
+  entered s m e h = rw (put_first_some is_empty x (slots_of l) e) h
 
-  pub not_entered : 3072 ≤ length l → 128 ≤ s → l ≡ with_mail l (put_first is_empty x (slots_of l))
-  not_entered k h = rw (first_set, set_out (slots_of l) s x (rw (slots_many l) h)) (sym (mail_same l k))
+  pub not_entered : 3072 ≤ length l → None ≡ position is_empty (slots_of l) → l ≡ with_mail l (put_first is_empty x (slots_of l))
+  not_entered k e = rw (put_first_none is_empty x (slots_of l) e) (sym (mail_same l k))
 
--- ---- the loop: what is left to send, x to each from p on in the set `rest`, ends where the whole does
-abbrev pub to_each : Message → ℕ → ℕ → List Message
-to_each x rest p = map (to_receiver x) (halves (17 - p) rest p)
+-- ---- the loop: what is left to send, to each from p to n, ends where the whole does
+abbrev pub to_each : Post → (n p : ℕ) → List Message
+to_each y n p = map (to_receiver y.message) (keep (has y.to) (numbers p (n + 1 - p)))
 
-each_paged : (x : Message) (rest p : ℕ) → Paged x.page → Pages (to_each x rest p)
-each_paged x rest p q = all_from (to_receiver x) (halves (17 - p) rest p) (λ _ _. q)
-
-pub record Sending (l₀ : List ℕ) (all : List Message) (l : List ℕ) (x : Message) (rest p : ℕ) : Type 0 where
+pub record Sending (l₀ : List ℕ) (y : Post) (n : ℕ) (l : List ℕ) (p : ℕ) : Type 0 where
   pub long : 3072 ≤ length l
-  pub same : length l ≡ length l₀
-  pub fits : rest < 2 ^ (17 - p)
-  pub page : Paged x.page
-  pub comes : sent l (to_each x rest p) ≡ sent l₀ all
+  pub page : Paged y.message.page
+  pub comes : sent l (to_each y n p) ≡ sent l₀ (messages_of y)
 
-pub sending_start : (l : List ℕ) (y : Post) → 3072 ≤ length l → y.to < 2 ^ 16 → length y.message.page ≡ 16 → Sending l (messages_of y) l y.message y.to 1
+-- up to the highest receiver
+pub sending_start : (l : List ℕ) (y : Post) → 3072 ≤ length l → y.to < 2 ^ 16 → length y.message.page ≡ 16 → Sending l y (32 - count_leading_zeros 32 y.to) l 1
 unfolding messages_of
-sending_start l y h k p = record { long = h; same = refl; fits = k; page = p; comes = rw (members_halves 16 y.to) }
+sending_start l y h k q =
+    let m = leading_length 32 y.to (omega arith) in
+    let n : 32 - count_leading_zeros 32 y.to ≡ m.0 = omega (arith, m.1) in
+    let all : members m.0 y.to ≡ members 16 y.to = sym (members_wide m.0 (m.0 + 16) y.to m.2 (omega arith)) ∙ members_wide 16 (m.0 + 16) y.to k (omega arith) in
+    let from : m.0 + 1 - 1 ≡ m.0 = omega arith in
+    record { long = h; page = q; comes = rw (n, from, all) }
 
-module _ {l₀ : List ℕ} {all : List Message} {l : List ℕ} {x : Message} {rest p : ℕ} (g : Sending l₀ all l x rest p) where
-  -- a set not yet empty has parties left
-  pub some_left : (rest ≡ 0 → ⊥) → p ≤ 16
-  some_left z = go (17 - p) refl g.fits
-    where
-      go : (n : ℕ) → 17 - p ≡ n → rest < 2 ^ n → p ≤ 16
-      go zero e l = absurd (z (lt-one l))
-      go (suc n) e l = omega arith
+module _ {l₀ : List ℕ} {y : Post} {n : ℕ} {l : List ℕ} {p : ℕ} (g : Sending l₀ y n l p) where
+  module _ (some : p ≤ n) where
+    turn : n + 1 - p ≡ suc (n + 1 - (p + 1))
+    turn = omega arith
 
-  module _ (z : rest ≡ 0 → ⊥) where
-    one_more : 17 - p ≡ suc (17 - (p + 1))
-    one_more = omega (arith, some_left z)
+    turn_in : has y.to p ≡ true → to_each y n p ≡ to_receiver y.message p ∷ to_each y n (p + 1)
+    turn_in o = rw (turn, o, add-one p)
 
-    left_fits : rest / 2 < 2 ^ (17 - (p + 1))
-    left_fits = half_lt (17 - (p + 1)) rest (rw one_more at g.fits)
+    turn_out : has y.to p ≡ false → to_each y n p ≡ to_each y n (p + 1)
+    turn_out o = rw (turn, o, add-one p)
 
-    turn_in_lem : rest % 2 ≡ 1 → to_each x rest p ≡ to_receiver x p ∷ to_each x (rest / 2) (p + 1)
-    turn_in_lem o = rw (one_more, halves_in (17 - (p + 1)) rest p o, add-one p)
-
-    turn_out : (rest % 2 ≡ 1 → ⊥) → to_each x rest p ≡ to_each x (rest / 2) (p + 1)
-    turn_out o = rw (one_more, halves_out (17 - (p + 1)) rest p o, add-one p)
-
-    pub sends : (m : List ℕ) → rest % 2 ≡ 1 → m ≡ with_mail l (put_first is_empty (to_receiver x p) (slots_of l)) → Sending l₀ all m x (rest / 2) (p + 1)
+    pub sends : (m : List ℕ) → has y.to p ≡ true → m ≡ with_mail l (put_first is_empty (to_receiver y.message p) (slots_of l)) → Sending l₀ y n m (p + 1)
     sends m o e =
-        let one : Pages (to_receiver x p ∷ []) = cons g.page none in
-        let n = mail_long l (put_first is_empty (to_receiver x p) (slots_of l)) (mail_placed one (mail_read l g.long)) g.long in
+        let one : Pages (to_receiver y.message p ∷ []) = cons g.page none in
         record {
-          long = rw (e, n) g.long;
-          same = ap length e ∙ n ∙ g.same;
-          fits = left_fits;
+          long = rw (e, mail_long l (put_first is_empty (to_receiver y.message p) (slots_of l)) (mail_placed one (mail_read l g.long)) g.long) g.long;
           page = g.page;
           comes =
-              ap (λ (q : List ℕ). sent q (to_each x (rest / 2) (p + 1))) e
-              ∙ sent_twice l (to_receiver x p ∷ []) (to_each x (rest / 2) (p + 1)) g.long one (each_paged x (rest / 2) (p + 1) g.page)
-              ∙ ap (sent l) (sym (turn_in_lem o))
+              ap (λ (q : List ℕ). sent q (to_each y n (p + 1))) e
+              ∙ sent_twice l (to_receiver y.message p ∷ []) (to_each y n (p + 1)) g.long one (all_from (to_receiver y.message) (keep (has y.to) (numbers (p + 1) (n + 1 - (p + 1)))) (λ _ _. g.page))
+              ∙ ap (sent l) (sym (turn_in o))
               ∙ g.comes;
         }
 
-    pub passes : (rest % 2 ≡ 1 → ⊥) → Sending l₀ all l x (rest / 2) (p + 1)
-    passes o = record { long = g.long; same = g.same; fits = left_fits; page = g.page; comes = ap (sent l) (sym (turn_out o)) ∙ g.comes }
+    pub passes : has y.to p ≡ false → Sending l₀ y n l (p + 1)
+    passes o = record { long = g.long; page = g.page; comes = ap (sent l) (sym (turn_out o)) ∙ g.comes }
 
-  pub sends_end : rest ≡ 0 → l ≡ with_mail l₀ (placed all (slots_of l₀))
+  pub sends_end : n < p → l ≡ with_mail l₀ (placed (messages_of y) (slots_of l₀))
   sends_end z =
-      let e : [] ≡ to_each x rest p = rw (z, halves_none (17 - p) p) in
+      let k : n + 1 - p ≡ 0 = omega arith in
+      let e : [] ≡ to_each y n p = rw k in
       sym (mail_same l g.long) ∙ ap (sent l) e ∙ g.comes

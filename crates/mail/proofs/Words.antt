@@ -2,11 +2,11 @@
 use mathlib.Core.Path.{◌≡◌, sym, ap, ◌∙◌}
 use mathlib.Core.Bool.{true, false}
 use mathlib.Core.List.{List, ◌++◌}
-use Prim.Native.Nat.{ℕ, suc, ◌*◌, ◌≤◌, ◌<◌}
+use Prim.Native.Nat.{ℕ, suc, ◌*◌, ◌-◌, ◌≤◌, ◌<◌}
 use native.Mathlib.Nat.{zero-add}
 use native.Mathlib.Omega.{arith}
 use borrow.Author.Tests.{eq-eqb, ne_eqb}
-use lib.ListN.{length, get_or, drop, take-append-drop}
+use lib.ListN.{length, get_or, take, drop, take-append-drop}
 use lib.Seq.{drop_at}
 use Rattle.tables.specs.declared.Message.{Message}
 use Rattle.tables.specs.Rows.{rows_words, with_row}
@@ -16,7 +16,7 @@ use Rattle.tables.specs.Words.{message_words}
 use Rattle.tables.specs.Machines.{message_of, slots_of}
 use Rattle.tables.proofs.All.{all_map}
 use Rattle.tables.proofs.Table.{Wide, rows_words_back, length_rows, put_before, rows_set, rows_of_back}
-use Rattle.tables.proofs.Parts.{first_word_lem, length_put}
+use Rattle.tables.proofs.Parts.{first_word_lem, length_put, put_rest}
 use Rattle.tables.proofs.Read.{message_words_lem, slot_at_lem, slots_many}
 use Rattle.tables.proofs.Round.{message_wide, message_back}
 use Rattle.tables.proofs.Whole.{Paged, slots_paged}
@@ -80,10 +80,15 @@ mail_same l h =
     mail_is l (slots_of l) (mail_read l h) ∙ rw (rows_words_back message_of message_words 128 24 l message_words_lem h) (take-append-drop 3072 l)
 
 -- one slot
-pub slot_put : (l : List ℕ) (s : ℕ) (x : Message) → 3072 ≤ length l → s < 128 → Paged x.page → put l (s * 24) (message_words x) ≡ with_mail l (with_row (slots_of l) (suc s) x)
+slot_put : (l : List ℕ) (s : ℕ) (x : Message) → 3072 ≤ length l → s < 128 → Paged x.page → put l (s * 24) (message_words x) ≡ with_mail l (with_row (slots_of l) (suc s) x)
 slot_put l s x h b p =
     let k : Mail (slots_of l) = mail_read l h in
     ap (λ (q : List ℕ). put q (s * 24) (message_words x)) (sym (mail_same l h) ∙ mail_is l (slots_of l) k)
     ∙ put_before (rows_words message_words (slots_of l)) (drop 3072 l) (s * 24) (message_words x) (omega (arith, mail_words l (slots_of l) k, message_wide x p))
     ∙ ap (λ (q : List ℕ). q ++ drop 3072 l) (rows_set message_words 24 (wide l (slots_of l) k) s x (omega (arith, slots_many l)) (message_wide x p))
     ∙ sym (mail_is l (with_row (slots_of l) (suc s) x) (mail_row (suc s) x p k))
+
+-- what a writer did to the part that it was lent
+pub slot_written : (l ys : List ℕ) (i : ℕ) (x : Message) → 3072 ≤ length l → i < 128 → length x.page ≡ 16 → ys ≡ put (take (length l - i * 24) (drop (i * 24) l)) 0 (message_words x)
+    → take (i * 24) l ++ (ys ++ drop (length l - i * 24) (drop (i * 24) l)) ≡ with_mail l (with_row (slots_of l) (suc i) x)
+slot_written l ys i x h b p e = put_rest l (i * 24) (message_words x) ys e ∙ slot_put l i x h b p

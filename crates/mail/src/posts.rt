@@ -19,7 +19,7 @@ pub fn paged(
 ) -> Post
     ensures { result ≡ post (message kind sender t set number page) to }
 {
-    let x = Message {
+    let message = Message {
         kind,
         sender,
         receiver: 0,
@@ -29,27 +29,17 @@ pub fn paged(
         spare: 0,
         page,
     };
-    Post { message: x, to }
+    Post { message, to }
 }
 
 // A message without a page.
 pub fn bare(kind: u32, sender: u32, t: Tag, set: u32, number: u32, to: u32) -> Post
     ensures { result ≡ post (message kind sender t set number no_page) to }
 {
-    let page = blank::no_page();
-    let x = Message {
-        kind,
-        sender,
-        receiver: 0,
-        tag: t,
-        set,
-        number,
-        spare: 0,
-        page,
-    };
-    Post { message: x, to }
+    paged(kind, sender, t, set, number, blank::no_page(), to)
 }
 
+// What a step sends that sends nothing: a message to nobody, and no option, since the definitions know a post by its set alone (`messages_of`).
 pub fn nothing() -> Post
     ensures { result ≡ no_post }
 {

@@ -1,8 +1,5 @@
 -- Two lines that are no call: each is answered, under its number. Which machine is in force after set-up lines.
-use mathlib.Core.Path.{◌≡◌, refl}
-use mathlib.Core.Bool.{Bool, true, false}
-use mathlib.Core.List.{[], ◌∷◌}
-use lib.ListN.{replicate}
+use Rattle.std.proofs.Common.{◌≡◌, refl, Bool, true, false, [], ◌∷◌, replicate}
 use Rattle.tables.specs.Machines.{directory_of, message_of, rows_of, directories_of, slots_of, machine_of}
 use Rattle.mail.specs.Posts.{messages_of}
 use Rattle.inspect.specs.Good.{good_numbers}
@@ -12,7 +9,7 @@ use Rattle.machine.specs.Buffers.{call}
 use Rattle.schedule.specs.declared.Command.{Command}
 use Rattle.schedule.specs.declared.Command.TheVariants.{SetUp, Columns}
 use Rattle.schedule.specs.Text.{decimal_in, decimal, fields_text, answer_text}
-use Rattle.schedule.specs.Lines.{numbers_of, pick, pick_all, said_by, command_of}
+use Rattle.schedule.specs.Lines.{numbers_of, pick_all, said_by, command_of}
 use Rattle.schedule.specs.Input.{commands_from}
 use Rattle.rehearse.specs.Rehearsal.{machines, machines_after, printed, output_of, rehearsal}
 
@@ -20,7 +17,7 @@ use Rattle.rehearse.specs.Rehearsal.{machines, machines_after, printed, output_o
 pub two_refused : rehearsal (68 ∷ 32 ∷ 48 ∷ 49 ∷ 10 ∷ 68 ∷ 32 ∷ 49 ∷ [])
     ≡ 49 ∷ 32 ∷ 49 ∷ 56 ∷ 32 ∷ 48 ∷ 32 ∷ 48 ∷ 32 ∷ 48 ∷ 32 ∷ 48 ∷ 32 ∷ 48 ∷ 10
     ∷ 50 ∷ 32 ∷ 49 ∷ 56 ∷ 32 ∷ 48 ∷ 32 ∷ 48 ∷ 32 ∷ 48 ∷ 32 ∷ 48 ∷ 32 ∷ 48 ∷ 10 ∷ []
-unfolding decimal_in decimal fields_text answer_text numbers_of pick pick_all said_by command_of commands_from printed output_of rehearsal
+unfolding decimal_in decimal fields_text answer_text numbers_of pick_all said_by command_of commands_from printed output_of rehearsal
 two_refused = refl
 
 -- whether the wide machine is in force after a line, where it was or was not before it

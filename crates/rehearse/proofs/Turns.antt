@@ -1,167 +1,176 @@
 -- Turns over a chunk: each meets a line end or the chunk's end, and what was to come goes on.
-use mathlib.Core.Path.{◌≡◌, refl, sym, ap, ◌∙◌}
-use mathlib.Core.Bool.{Bool, true, false}
-use mathlib.Core.List.{List, [], ◌∷◌, ◌++◌, append_assoc}
-use Prim.Native.Nat.{ℕ, ◌+◌, ◌-◌, ◌≤◌, ◌<◌, min}
-use native.Mathlib.Omega.{arith}
-use lib.ListN.{length, take, drop}
-use lib.Seq.{length-take-le}
-use Rattle.std.specs.Prelude.{if◌then◌else◌}
+use Rattle.std.proofs.Common.{◌≡◌, refl, sym, ap, ◌∙◌, List, [], ◌∷◌, ◌++◌, append_assoc, append-nil, ℕ, ◌+◌, ◌<◌, ◌≤◌, arith, length, length-drop, IfSome, min, ◌-◌, drop, Option, Some, None, Bool, true, false}
+use Rattle.std.proofs.lemmas.List.{drop-drop}
+use Rattle.std.proofs.Math.Seq.{drop-length}
+use Rattle.std.specs.Io.KnownBytes.{Appends}
+use Rattle.std.proofs.KnownBytes.{Appends-nil, Appends-trans}
 use Rattle.schedule.specs.declared.Command.{Command}
-use Rattle.schedule.specs.declared.Fed.{Fed}
+use Rattle.schedule.specs.declared.Line.{Line}
 use Rattle.schedule.specs.Lines.{command_of}
-use Rattle.schedule.specs.Input.{Held, FedOn, commands_from}
-use Rattle.schedule.proofs.Pending.{held_none}
-use Rattle.rehearse.specs.declared.State.{State}
-use Rattle.rehearse.specs.Rehearsal.{Machines, outcome_of, printed, output_of}
-use Rattle.rehearse.specs.Pieces.{ahead}
-use Rattle.rehearse.specs.Turns.{Answered, stand, Goes, Turned, Consumed}
-
--- the part that is written out
-pub part : (out : List ℕ) (at : ℕ) → length out ≡ 65536 → at ≤ 65536 → at ≡ length (take at out)
-part out at e h = sym (length-take-le at out (omega arith))
+use Rattle.schedule.specs.Text.{answer_text}
+use Rattle.schedule.specs.Input.{Held, FedOn, commands_from, unfinished, malformed_if}
+use Rattle.schedule.specs.Inner.{Printed}
+use Rattle.rehearse.specs.declared.Rehearsal.{Rehearsal}
+use Rattle.rehearse.specs.declared.output.Output.{Output}
+use Rattle.rehearse.specs.Rehearsal.{outcome_of, printed, following, output_of}
+use Rattle.rehearse.specs.Pieces.{Stand, ahead}
+use Rattle.rehearse.specs.Turns.{machines_of, waiting, stand, Answered, Went, left_of, Turned, DrainedInto, Unwritten, EndedIn}
 
 -- the answered command is the first of those to come
-pub first_of_lem : (c : Command) (m : Machines) (out : List ℕ) (s : State) (m' : Machines) (out' : List ℕ) (r : State) → Answered c m out s m' out' r → (cs : List Command)
-    → take s.at out ++ output_of s.lines m (c ∷ cs) ≡ take r.at out' ++ output_of r.lines m' cs
+first_of : (c : Command) (s r : Rehearsal) → Answered c s r → (cs : List Command)
+    → waiting s ++ output_of s.lines (machines_of s) (c ∷ cs) ≡ waiting r ++ output_of r.lines (machines_of r) cs
 unfolding output_of
-first_of_lem c m out s m' out' r a cs =
-    rw (← a.lines, a.machines, a.text) (sym (append_assoc (take s.at out) (printed r.lines (outcome_of c m)) _))
+first_of c s r a cs =
+    rw (← a.lines, a.machines, a.text) (sym (append_assoc (waiting s) (printed r.lines (outcome_of c (machines_of s))) _))
 
 -- a turn
-module _ (chunk : List ℕ) (s : State) (m : Machines) (l out l' : List ℕ) (f : Fed) (w : FedOn l s.len chunk s.from l' f) where
-  abbrev fed : State
-  fed = record { lines = s.lines; len = f.len; from = f.at; at = s.at; on = false; wide = s.wide }
-
-  pub rest : f.ended ≡ false → s.at ≤ 65389 → Turned chunk s m l out fed m l' out
+module _ (chunk : List ℕ) (s : Rehearsal) (line : Line) where
+  pub rest_of : FedOn s.line chunk line None → s.output.len ≤ 65389 → Turned chunk s (record s { line = line }) None
   unfolding ahead
-  rest n h =
+  rest_of w h =
       record {
-        goes = record { low = w.low; high = w.high; went = λ p g. record { pending = p ++ w.added; held = w.held p g; same = λ later. same p later } };
-        some = omega (arith, w.all n);
-        further = λ y. absurd (let z : ◌≡◌ {A = ℕ} 0 1 = cc in omega arith);
+        place = tt;
         room = omega arith;
-        space = λ y. h;
+        went = λ p held. record {
+          pending = p ++ w.added;
+          held = w.held p held;
+          same = λ later. ap (λ (cs : List Command). waiting s ++ output_of s.lines (machines_of s) cs) (w.same p later);
+        };
       }
-    where
-      same : (p later : List ℕ) → take s.at out ++ output_of s.lines m (commands_from p (drop s.from chunk ++ later))
-          ≡ take s.at out ++ output_of s.lines m (commands_from (p ++ w.added) (drop f.at chunk ++ later))
-      same p later = ap (λ (cs : List Command). take s.at out ++ output_of s.lines m cs) (rw n at (w.same p later))
 
-  pub met : f.ended ≡ true → (c : Command) → ((p : List ℕ) → Held p l' f.len → c ≡ command_of p) → (m' : Machines) (out' : List ℕ) (r : State)
-      → Answered c m out fed m' out' r → Turned chunk s m l out r m' l' out'
+  pub met : (next : ℕ) (r : Rehearsal) → FedOn s.line chunk line (Some next) → r.output.len ≤ 65536
+      → ((p : List ℕ) → Held p line → Answered (command_of p) (record s { line = line }) r) → Turned chunk s r (Some next)
   unfolding ahead
-  met n c e m' out' r a =
+  met next r w h answers =
       record {
-        goes =
+        place = w.next;
+        room = h;
+        went = λ p held.
+            let a = answers (p ++ w.added) (w.held p held) in
             record {
-              low = omega (arith, w.low, a.place);
-              high = omega (arith, w.high, a.place);
-              went = λ p g. record { pending = []; held = rw a.none (held_none l'); same = λ later. same p g later };
-            };
-        some = omega (arith, w.further n, a.place);
-        further = λ y. omega (arith, w.further n, a.place);
-        room = a.room;
-        space = a.space;
-      }
-    where
-      same : (p : List ℕ) → Held p l s.len → (later : List ℕ)
-          → take s.at out ++ output_of s.lines m (commands_from p (drop s.from chunk ++ later))
-          ≡ take r.at out' ++ output_of r.lines m' (commands_from [] (drop r.from chunk ++ later))
-      same p g later =
-          ap (λ (cs : List Command). take s.at out ++ output_of s.lines m cs) (rw n at (w.same p later))
-          ∙ rw (← e (p ++ w.added) (w.held p g), a.place) (first_of_lem c m out fed m' out' r a _)
-
--- two ways one after the other, and one that began a new text
-module _ (chunk : List ℕ) (s r t : State) (m : Machines) (l w : List ℕ) (m' : Machines) (l' v : List ℕ) (m'' : Machines) (l'' x : List ℕ) (g : Goes chunk s m l w r m' l' v) where
-  pub goes_on : Goes chunk r m' l' v t m'' l'' x → Goes chunk s m l w t m'' l'' x
-  goes_on h =
-      record {
-        low = omega (arith, g.low, h.low);
-        high = h.high;
-        went = λ p e.
-            let a = g.went p e in
-            let b = h.went a.pending a.held in
-            record { pending = b.pending; held = b.held; same = λ later. a.same later ∙ b.same later };
-      }
-
-  pub goes_anew : Goes chunk r m' l' [] t m'' l'' x → Goes chunk s m l w t m'' l'' (v ++ x)
-  goes_anew h =
-      record {
-        low = omega (arith, g.low, h.low);
-        high = h.high;
-        went = λ p e.
-            let a = g.went p e in
-            let b = h.went a.pending a.held in
-            record {
-              pending = b.pending;
-              held = b.held;
+              pending = [];
+              held = a.line;
               same = λ later.
-                  a.same later ∙ ap (λ (z : List ℕ). v ++ z) (b.same later) ∙ sym (append_assoc v x (ahead (stand t m'' b.pending) (drop t.from chunk ++ later)));
+                  ap (λ (cs : List Command). waiting s ++ output_of s.lines (machines_of s) cs) (w.same p later)
+                  ∙ first_of (command_of (p ++ w.added)) (record s { line = line }) r a _;
             };
       }
 
-pub goes_none : (chunk : List ℕ) (s : State) (m : Machines) (l v : List ℕ) → s.from ≤ length chunk → v ≡ [] → Goes chunk s m l [] s m l v
-goes_none chunk s m l v h e =
-    record { low = omega arith; high = h; went = λ p g. record { pending = p; held = g; same = λ later. rw e } }
+-- part of a chunk is answered: what was written, and what waits
+pub record Answering (chunk : List ℕ) (s : Rehearsal) (before : Option (List ℕ)) (r : Rehearsal) (after : Option (List ℕ)) (rest : List ℕ) : Type 0 where
+  pub text : List ℕ
+  pub written : Appends before after text
+  pub room : r.output.len ≤ 65389
+  pub place : ℕ
+  pub within : place ≤ length chunk
+  pub left : rest ≡ drop place chunk
+  pub went : (p : List ℕ) → Held p s.line → Went (stand s p) [] chunk r (text ++ waiting r) rest
 
--- a state's lines, pending line and place are all that counts
-abbrev pub with : State → ℕ → Bool → State
-with s at on = record { lines = s.lines; len = s.len; from = s.from; at = at; on = on; wide = s.wide }
+-- the output does not count but for what waits in it
+went_with : (a : Stand) (w i : List ℕ) (r : Rehearsal) (v i' : List ℕ) → Went a w i r v i' → (out : Output) (v' i'' : List ℕ) → v' ≡ v → i'' ≡ i'
+    → Went a w i (record r { output = out }) v' i''
+went_with a w i r v i' g out v' i'' e f = record { pending = g.pending; held = g.held; same = λ later. rw (e, f) (g.same later) }
 
-pub goes_with : (chunk : List ℕ) (s r : State) (m : Machines) (l w : List ℕ) (m' : Machines) (l' v : List ℕ) (a b : ℕ) (x y : Bool) → Goes chunk s m l w r m' l' v
-    → Goes chunk (with s a x) m l w (with r b y) m' l' v
-goes_with chunk s r m l w m' l' v a b x y g =
-    record {
-      low = g.low;
-      high = g.high;
-      went = λ p h. let k = g.went p h in record { pending = k.pending; held = k.held; same = k.same };
-    }
+-- the place in a chunk after a turn
+abbrev place_after : Option ℕ → ℕ → List ℕ → ℕ
+place_after (Some next) place chunk = place + next
+place_after None place chunk = length chunk
 
--- turns over a chunk
-pub record Consuming (chunk : List ℕ) (s : State) (m : Machines) (l : List ℕ) (r : State) (m' : Machines) (l' out' : List ℕ) : Type 0 where
-  pub goes : Goes chunk s m l [] r m' l' (take r.at out')
-  pub some : r.on ≡ false → min (s.from + 1) (length chunk) ≤ r.from
-  pub room : r.at ≤ 65536
-  pub space : r.on ≡ true → r.at ≤ 65389
+left_after : (next : Option ℕ) (place : ℕ) (chunk rest : List ℕ) → rest ≡ drop place chunk → left_of next rest ≡ drop (place_after next place chunk) chunk
+left_after (Some next) place chunk rest e = rw e (drop-drop next place chunk)
+left_after None place chunk rest e = sym (drop-length chunk)
 
-module _ (chunk : List ℕ) (s : State) (m : Machines) (l : List ℕ) where
-  pub no_turn : (out : List ℕ) → s.from ≤ length chunk → s.at ≡ 0 → s.on ≡ true → Consuming chunk s m l s m l out
-  no_turn out h e n =
+within_after : (next : Option ℕ) (place : ℕ) (chunk rest : List ℕ) → rest ≡ drop place chunk → place ≤ length chunk
+    → IfSome next (λ at. (0 < at) × (at ≤ length rest)) → (min 1 (length chunk) ≤ place_after next place chunk) × (place_after next place chunk ≤ length chunk)
+within_after (Some next) place chunk rest e h w =
+    let k : length rest ≡ length chunk - place = ap length e ∙ length-drop place chunk in (omega (arith, w.0), omega (arith, w.1))
+within_after None place chunk rest e h w = (omega arith, omega arith)
+
+module _ (chunk : List ℕ) (s : Rehearsal) (before : Option (List ℕ)) where
+  pub none_yet : s.output.len ≡ 0 → Answering chunk s before s before chunk
+  none_yet e =
       record {
-        goes = goes_none chunk s m l (take s.at out) h (ap (λ (k : ℕ). take k out) e);
-        some = λ y. absurd (let z : ◌≡◌ {A = ℕ} 0 1 = cc in omega arith);
-        room = omega (arith, e);
-        space = λ y. omega (arith, e);
+        text = [];
+        written = Appends-nil before;
+        room = omega arith;
+        place = 0;
+        within = omega arith;
+        left = refl;
+        went = λ p held. record { pending = p; held = held; same = λ later. rw e };
       }
 
-  module _ (r : State) (m' : Machines) (l' out' : List ℕ) (g : Consuming chunk s m l r m' l' out') where
-    pub has_space : r.on ≡ true → r.at ≤ 65389
-    has_space n = g.space n
-
-    pub one_turn : (t : State) (m'' : Machines) (l'' out'' : List ℕ) → Turned chunk r m' l' out' t m'' l'' out'' → Consuming chunk s m l t m'' l'' out''
-    one_turn t m'' l'' out'' h =
+  module _ (r : Rehearsal) (after : Option (List ℕ)) (rest : List ℕ) (g : Answering chunk s before r after rest) (t : Rehearsal) (next : Option ℕ) (w : Turned rest r t next) where
+    -- the way so far, and the turn
+    on : (p : List ℕ) → Held p s.line → Went (stand s p) [] chunk t (g.text ++ waiting t) (left_of next rest)
+    on p held =
+        let a = g.went p held in
+        let b = w.went a.pending a.held in
         record {
-          goes = goes_on chunk s r t m l [] m' l' (take r.at out') m'' l'' (take t.at out'') g.goes h.goes;
-          some = λ y. omega (arith, g.goes.low, h.some);
-          room = h.room;
-          space = h.space;
+          pending = b.pending;
+          held = b.held;
+          same = λ later.
+              a.same later ∙ append_assoc g.text (waiting r) _ ∙ ap (λ (z : List ℕ). g.text ++ z) (b.same later) ∙ sym (append_assoc g.text (waiting t) _);
         }
 
-pub consumed : (chunk : List ℕ) (s : State) (m : Machines) (l : List ℕ) (r : State) (m' : Machines) (l' out' : List ℕ) → Consuming chunk (with s 0 true) m l r m' l' out'
-    → r.on ≡ false → Consumed chunk s m l r m' l' out'
-consumed chunk s m l r m' l' out' g n =
-    record {
-      goes = goes_with chunk (with s 0 true) r m l [] m' l' (take r.at out') s.at r.at s.on r.on g.goes;
-      some = g.some n;
-      room = g.room;
-    }
+    within : (min 1 (length chunk) ≤ place_after next g.place chunk) × (place_after next g.place chunk ≤ length chunk)
+    within = within_after next g.place chunk rest g.left g.within w.place
 
--- a turn takes some bytes, or is the last
-pub less : (chunk : List ℕ) (s : State) (m : Machines) (l out : List ℕ) (r : State) (m' : Machines) (l' out' : List ℕ) → s.on ≡ true → Turned chunk s m l out r m' l' out'
-    → (length chunk - r.from) + (if r.on then 1 else 0) < (length chunk - s.from) + (if s.on then 1 else 0)
-less chunk s m l out r m' l' out' e w = go r.on refl
-  where
-    go : (b : Bool) → r.on ≡ b → (length chunk - r.from) + (if b then 1 else 0) < (length chunk - s.from) + (if s.on then 1 else 0)
-    go true q = rw e (omega (arith, w.further q, w.goes.high))
-    go false q = rw e (omega (arith, w.goes.low, w.goes.high))
+    pub next_line : (more : List ℕ) → more ≡ left_of next rest → t.output.len ≤ 65389 → Answering chunk s before t after more
+    next_line more m h =
+        record {
+          text = g.text;
+          written = g.written;
+          room = h;
+          place = place_after next g.place chunk;
+          within = within.1;
+          left = m ∙ left_after next g.place chunk rest g.left;
+          went = λ p held. rw m (on p held);
+        }
+
+    -- the output is written
+    module _ (out : Output) (later : Option (List ℕ)) (a : Appends after later (waiting t)) (e : out.len ≡ 0) where
+      pub next_full : (more : List ℕ) → more ≡ left_of next rest → Answering chunk s before (record t { output = out }) later more
+      next_full more m =
+          record {
+            text = g.text ++ waiting t;
+            written = Appends-trans _ _ _ _ _ g.written a;
+            room = omega arith;
+            place = place_after next g.place chunk;
+            within = within.1;
+            left = m ∙ left_after next g.place chunk rest g.left;
+            went = λ p held. went_with _ _ _ t _ _ (on p held) out _ more (rw (e, append-nil)) m;
+          }
+
+      pub drained : next ≡ None → DrainedInto chunk s before (record t { output = out }) later
+      drained n =
+          record {
+            drained = record { text = g.text ++ waiting t; went = λ p held. went_with _ _ _ t _ _ (on p held) out _ [] refl (rw n) };
+            empty = e;
+            written = Appends-trans _ _ _ _ _ g.written a;
+          }
+
+    -- or is not
+    pub not_written : (out : Output) → out.len ≡ t.output.len → out.bytes ≡ t.output.bytes → Unwritten chunk s (record t { output = out })
+    not_written out e f =
+        record {
+          text = g.text;
+          place = place_after next g.place chunk;
+          some = within.0;
+          within = within.1;
+          went = λ p held. went_with _ _ _ t _ _ (on p held) out _ _ (rw (e, f)) (sym (left_after next g.place chunk rest g.left));
+        }
+
+-- the end of the input
+module _ (s : Rehearsal) (b : Bool) (u : (p : List ℕ) → Held p s.line → malformed_if b ≡ unfinished p) (e : s.output.len ≡ 0) where
+  pub no_more : b ≡ false → EndedIn s s
+  unfolding ahead commands_from output_of
+  no_more f = record { ended = record { room = omega arith; text = λ p held. rw (e, ← u p held, f) }; same = refl }
+
+  pub one_more : (n : ℕ) (out : Output) → b ≡ true → n ≡ following s.lines
+      → Printed 147 s.output.bytes s.output.len (answer_text n 18 0 0 0 0 0) out.bytes out.len → EndedIn s (record s { output = out })
+  unfolding ahead commands_from output_of printed
+  one_more n out f k t =
+      record {
+        ended = record { room = omega (arith, t.high); text = λ p held. t.text ∙ rw (e, ← u p held, f, k) (sym (append-nil _)) };
+        same = refl;
+      }

@@ -2,8 +2,7 @@
 -- Each line prints line number, code, client, tag number, tag client, and the first page word if the code is 1, else 0."
 -- And of the mark: "The rehearsal program prints it last on each line."
 -- And of columns: "a machine has 5,036 words [..]. The program's set-up line is `C nc nd nr f columns top w`."
-use Rattle.std.specs.Prelude.{min, Bool, true, false, List, [], ◌∷◌, ◌++◌, ℕ, ◌+◌, eqb, get_or, replicate, if◌then◌else◌}
-use Rattle.sets.specs.Plain.{Option, none, some}
+use Rattle.std.specs.Prelude.{min, Bool, true, false, List, [], ◌∷◌, ◌++◌, ℕ, ◌+◌, eqb, get_or, replicate, Option, None, Some, if◌then◌else◌}
 use Rattle.tables.specs.declared.Layout.{Layout}
 use Rattle.tables.specs.Layouts.{base, wide}
 use Rattle.tables.specs.Tables.{Page}
@@ -22,21 +21,21 @@ page_of w = w ∷ replicate 15 0
 -- the call that a command is: a page to fill is all zero, and a malformed line is no call
 abbrev pub call_of : Command → Option Call
 call_of (SetUp nc nd nr f rq wq top w) =
-    some (set_up (record { clients = nc; directories = nd; replicas = nr; f = f; rq = rq; wq = wq; top = top; columns = 0 }) (page_of w))
+    Some (set_up (record { clients = nc; directories = nd; replicas = nr; f = f; rq = rq; wq = wq; top = top; columns = 0 }) (page_of w))
 call_of (Columns nc nd nr f columns top w) =
-    some (set_up (record { clients = nc; directories = nd; replicas = nr; f = f; rq = 0; wq = 0; top = top; columns = columns }) (page_of w))
-call_of (Read client) = some (start_read client)
-call_of (Write client w) = some (start_write client (page_of w))
-call_of (Deliver slot) = some (deliver slot (page_of 0))
-call_of (Gossip from to) = some (gossip from to)
-call_of (Tidy replica) = some (tidy replica)
-call_of (Crash kind id) = some (crash kind id)
-call_of Malformed = none
+    Some (set_up (record { clients = nc; directories = nd; replicas = nr; f = f; rq = 0; wq = 0; top = top; columns = columns }) (page_of w))
+call_of (Read client) = Some (start_read client)
+call_of (Write client w) = Some (start_write client (page_of w))
+call_of (Deliver slot) = Some (deliver slot (page_of 0))
+call_of (Gossip from to) = Some (gossip from to)
+call_of (Tidy replica) = Some (tidy replica)
+call_of (Crash kind id) = Some (crash kind id)
+call_of Malformed = None
 
 -- what a line leaves on a machine: what its call does, or code 18 and no change
 abbrev pub made : Layout → Option Call → List ℕ → Outcomes
-made lay none m = record { answer = coded 18; page = []; buffer = m }
-made lay (some c) m = call lay c m
+made lay None m = record { answer = coded 18; page = []; buffer = m }
+made lay (Some c) m = call lay c m
 
 -- the machine of 4,992 words, the wide one of 5,036, and whether the wide one is in force
 pub record Machines : Type 0 where

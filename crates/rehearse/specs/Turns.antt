@@ -1,17 +1,20 @@
 -- What the program's functions promise each other: however far they come in the input, what was written and what is still to come is the output.
-use Rattle.std.specs.Prelude.{◌≡◌, true, false, List, [], ◌++◌, ℕ, ◌+◌, ◌≤◌, ◌<◌, min, length, get_or, take, drop, Option, IfSome}
+use Rattle.std.specs.Prelude.{◌≡◌, List, [], ◌++◌, ℕ, ◌≤◌, ◌<◌, min, get_or, length, take, drop, Option, Some, None, IfSome}
 use Rattle.std.specs.Io.KnownBytes.{Appends}
 use Rattle.schedule.specs.declared.Command.{Command}
 use Rattle.schedule.specs.Input.{Held}
+use Rattle.rules.specs.declared.Answer.{Answer}
+use Rattle.machine.specs.Buffers.{Outcomes}
 use Rattle.rehearse.specs.declared.Reply.{Reply}
-use Rattle.rehearse.specs.declared.State.{State}
-use Rattle.rehearse.specs.Rehearsal.{Machines, machines, goes_wide, outcome_of, machines_after, printed, following, rehearsal}
+use Rattle.rehearse.specs.declared.Rehearsal.{Rehearsal}
+use Rattle.rehearse.specs.Rehearsal.{Machines, machines, zeros, goes_wide, outcome_of, machines_after, printed, following, rehearsal}
 use Rattle.rehearse.specs.Pieces.{Stand, start, ahead, Taken}
 
--- the buffers of the pending line and the output
-pub record Buffers (l o : List ℕ) : Type 0 where
-  pub line : length l ≡ 80
-  pub out : length o ≡ 65536
+-- what a call left: its answer, the page's first word, the buffer
+pub record Said (o : Outcomes) (r : Answer × ℕ) (m : List ℕ) : Type 0 where
+  pub answer : r.0 ≡ o.answer
+  pub word : r.1 ≡ get_or o.page 0 0
+  pub buffer : m ≡ o.buffer
 
 -- a command's call is made on the machine that it names
 pub record Replied (c : Command) (a : Machines) (r : Reply) (m w : List ℕ) : Type 0 where
@@ -21,90 +24,93 @@ pub record Replied (c : Command) (a : Machines) (r : Reply) (m w : List ℕ) : T
   pub base : m ≡ (machines_after c a).base
   pub wide : w ≡ (machines_after c a).wide
 
--- a command is answered: its line stands after the text before it, the next line begins, and there is room for its answer where the state goes on
-pub record Answered (c : Command) (m : Machines) (out : List ℕ) (s : State) (m' : Machines) (out' : List ℕ) (r : State) : Type 0 where
-  pub lines : r.lines ≡ following s.lines
-  pub none : r.len ≡ 0
-  pub place : r.from ≡ s.from
-  pub machines : m' ≡ machines_after c m
-  pub text : take r.at out' ≡ take s.at out ++ printed r.lines (outcome_of c m)
-  pub room : r.at ≤ 65536
-  pub space : r.on ≡ true → r.at ≤ 65389
+-- the machines, and the answers that wait to be written
+abbrev pub machines_of : Rehearsal → Machines
+machines_of s = machines s.is_wide s.base s.wide
 
-abbrev pub stand : State → Machines → List ℕ → Stand
-stand s m p = record { lines = s.lines; machines = m; pending = p }
+abbrev pub waiting : Rehearsal → List ℕ
+waiting s = take s.output.len s.output.bytes
+
+-- a command is answered: its line stands after what waited before it, and the next line begins
+pub record Answered (c : Command) (s r : Rehearsal) : Type 0 where
+  pub lines : r.lines ≡ following s.lines
+  pub line : Held [] r.line
+  pub machines : machines_of r ≡ machines_after c (machines_of s)
+  pub text : waiting r ≡ waiting s ++ printed r.lines (outcome_of c (machines_of s))
+
+-- where it stands, with the pending line p
+abbrev pub stand : Rehearsal → List ℕ → Stand
+stand s p = record { lines = s.lines; machines = machines_of s; pending = p }
 
 -- from a to r: the text w and then the output of the input i is the text v and then that of the input i', whatever comes later
-pub record Went (a : Stand) (w i : List ℕ) (r : State) (m' : Machines) (l' v i' : List ℕ) : Type 0 where
+pub record Went (a : Stand) (w i : List ℕ) (r : Rehearsal) (v i' : List ℕ) : Type 0 where
   pub pending : List ℕ
-  pub held : Held pending l' r.len
-  pub same : (later : List ℕ) → w ++ ahead a (i ++ later) ≡ v ++ ahead (stand r m' pending) (i' ++ later)
+  pub held : Held pending r.line
+  pub same : (later : List ℕ) → w ++ ahead a (i ++ later) ≡ v ++ ahead (stand r pending) (i' ++ later)
 
--- the same over a chunk, for every pending line that the buffer l may hold
-pub record Goes (chunk : List ℕ) (s : State) (m : Machines) (l w : List ℕ) (r : State) (m' : Machines) (l' v : List ℕ) : Type 0 where
-  pub low : s.from ≤ r.from
-  pub high : r.from ≤ length chunk
-  pub went : (p : List ℕ) → Held p l s.len → Went (stand s m p) w (drop s.from chunk) r m' l' v (drop r.from chunk)
+-- what is left of a chunk after a turn: all past a line, or nothing
+abbrev pub left_of : Option ℕ → List ℕ → List ℕ
+left_of (Some next) chunk = drop next chunk
+left_of None chunk = []
 
 -- a turn: a line and its answer, or the rest of the chunk
-pub record Turned (chunk : List ℕ) (s : State) (m : Machines) (l out : List ℕ) (r : State) (m' : Machines) (l' out' : List ℕ) : Type 0 where
-  pub goes : Goes chunk s m l (take s.at out) r m' l' (take r.at out')
-  pub some : min (s.from + 1) (length chunk) ≤ r.from
-  pub further : r.on ≡ true → s.from < r.from
-  pub room : r.at ≤ 65536
-  pub space : r.on ≡ true → r.at ≤ 65389
+pub record Turned (chunk : List ℕ) (s r : Rehearsal) (next : Option ℕ) : Type 0 where
+  pub place : IfSome next (λ at. (0 < at) × (at ≤ length chunk))
+  pub room : r.output.len ≤ 65536
+  pub went : (p : List ℕ) → Held p s.line → Went (stand s p) (waiting s) chunk r (waiting r) (left_of next chunk)
 
--- turns up to the chunk's end, or until the output is full: it has their answers, and nothing else
-pub record Consumed (chunk : List ℕ) (s : State) (m : Machines) (l : List ℕ) (r : State) (m' : Machines) (l' out' : List ℕ) : Type 0 where
-  pub goes : Goes chunk s m l [] r m' l' (take r.at out')
-  pub some : min (s.from + 1) (length chunk) ≤ r.from
-  pub room : r.at ≤ 65536
-
--- where the output fails: the lines were answered all the same, and some of their answers may have been written
-pub record Unwritten (chunk : List ℕ) (s : State) (m : Machines) (l m' w' l' out' : List ℕ) : Type 0 where
-  pub state : State
-  pub consumed : Consumed chunk s m l state (machines state.wide m' w') l' out'
-
--- a whole chunk, where the program goes on: the text is what was written out, one output after the other
-pub record Drained (chunk : List ℕ) (s : State) (m : Machines) (l : List ℕ) (r : State) (m' : Machines) (l' : List ℕ) : Type 0 where
+-- a whole chunk
+pub record Drained (chunk : List ℕ) (s r : Rehearsal) : Type 0 where
   pub text : List ℕ
-  pub went : r.on ≡ true → (p : List ℕ) → Held p l s.len → Went (stand s m p) [] chunk r m' l' text []
+  pub went : (p : List ℕ) → Held p s.line → Went (stand s p) [] chunk r text []
 
--- a whole chunk, and the program goes on: the text is what the writer got
-pub record DrainedInto (chunk : List ℕ) (s : State) (m : Machines) (l : List ℕ) (before : Option (List ℕ)) (r : State) (m' : Machines) (l' : List ℕ) (after : Option (List ℕ)) : Type 0 where
-  pub drained : Drained chunk s m l r m' l'
-  pub on : r.on ≡ true
+-- the same, where its text is what the writer got, and nothing waits
+pub record DrainedInto (chunk : List ℕ) (s : Rehearsal) (before : Option (List ℕ)) (r : Rehearsal) (after : Option (List ℕ)) : Type 0 where
+  pub drained : Drained chunk s r
+  pub empty : r.output.len ≡ 0
   pub written : Appends before after drained.text
 
--- before the first line
-pub record Fresh (s : State) : Type 0 where
-  pub lines : s.lines ≡ 0
-  pub none : s.len ≡ 0
-  pub base : s.wide ≡ false
+-- where the output fails: the lines up to a place were answered all the same, and some of their answers may have been written
+pub record Unwritten (chunk : List ℕ) (s r : Rehearsal) : Type 0 where
+  pub text : List ℕ
+  pub place : ℕ
+  pub some : min 1 (length chunk) ≤ place
+  pub within : place ≤ length chunk
+  pub went : (p : List ℕ) → Held p s.line → Went (stand s p) [] chunk r (text ++ waiting r) (drop place chunk)
 
--- at the input's end: what was still to come stands in the output
-pub record Ended (s : State) (out' : List ℕ) (r : ℕ) : Type 0 where
-  pub room : r ≤ 65536
-  pub text : (p l : List ℕ) (m : Machines) → Held p l s.len → take r out' ≡ ahead (stand s m p) []
+-- before the first line
+pub record Fresh (s : Rehearsal) : Type 0 where
+  pub lines : s.lines ≡ 0
+  pub line : Held [] s.line
+  pub machines : machines_of s ≡ zeros
+
+-- at the input's end: what was still to come waits in the output
+pub record Ended (s r : Rehearsal) : Type 0 where
+  pub room : r.output.len ≤ 65536
+  pub text : (p : List ℕ) → Held p s.line → waiting r ≡ ahead (stand s p) []
+
+-- the same, and all else is as it was
+pub record EndedIn (s r : Rehearsal) : Type 0 where
+  pub ended : Ended s r
+  pub same : r ≡ record s { output = r.output }
 
 -- the program after an input, in which it wrote a text
-pub record Reached (l w : List ℕ) (m : Machines) (line : List ℕ) (s : State) : Type 0 where
+pub record Reached (l w : List ℕ) (s : Rehearsal) : Type 0 where
   pub pending : List ℕ
-  pub held : Held pending line s.len
-  pub taken : Taken start l w (stand s m pending)
+  pub held : Held pending s.line
+  pub taken : Taken start l w (stand s pending)
 
 -- it stands so after some input
-pub record Reads (m : Machines) (line : List ℕ) (s : State) : Type 0 where
+pub record Reads (s : Rehearsal) : Type 0 where
   pub input : List ℕ
   pub text : List ℕ
-  pub reached : Reached input text m line s
+  pub reached : Reached input text s
 
 -- it stands at the input's end: what was written before, and then the output's first bytes, is the rehearsal of that input
-pub record Rehearsed (m w line out : List ℕ) : Type 0 where
-  pub state : State
-  pub reads : Reads (machines state.wide m w) line state
+pub record Rehearsed (s : Rehearsal) : Type 0 where
+  pub reads : Reads s
   pub size : ℕ
-  pub whole : rehearsal reads.input ≡ reads.text ++ take size out
+  pub whole : rehearsal reads.input ≡ reads.text ++ take size s.output.bytes
 
 -- where the bytes of a reader and of a writer are known: the writer got the rehearsal of all that the reader had
 abbrev pub Rehearses : Option (List ℕ) → Option (List ℕ) → Option (List ℕ) → Type 0

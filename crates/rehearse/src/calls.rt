@@ -1,9 +1,10 @@
 // The call that a line is, on the machine that it names: document 01's is lent as `m`, the wide one as `w`.
 ghost use Rattle.std.specs.Prelude.{◌≡◌, length};
-ghost use Rattle.rehearse.specs.Rehearsal.{page_of, machines};
-ghost use Rattle.rehearse.specs.Turns.{Replied};
+ghost use Rattle.rehearse.specs.Rehearsal.{page_of, call_of, goes_wide, made, machines};
+ghost use Rattle.rehearse.specs.Turns.{Said, Replied};
 
 use crate::Reply;
+use machine::{Base, LaidOut, Wide};
 use rules::{Answer, answers};
 use schedule::Command;
 use tables::Conf;
@@ -16,20 +17,12 @@ fn page(w: u32) -> [u32; 16]
     [w, 0, 0, 0, 0, 0, 0, 0, 0, 0, 0, 0, 0, 0, 0, 0]
 }
 
-// What every way through `reply` ends with.
-fn given(answer: Answer, word: u32, wide: bool) -> Reply
-    ensures { result ≡ record { answer = answer; word = word; wide = wide } }
-{
-    Reply { answer, word, wide }
-}
-
-// Makes the call that a command is: S and C name their machine, and `wide` says which is in force.
-pub(crate) fn reply(m: &mut [u32], w: &mut [u32], wide: bool, c: Command) -> Reply
-    ensures { Replied c (machines wide m.old w.old) result m.new w.new }
+// Makes the call that a command is on a machine of layout L: its answer, and the page's first word.
+fn call<L: LaidOut>(m: &mut [u32], c: Command) -> (Answer, u32)
+    ensures { Said (made L.LAYOUT (call_of c) m.old) result m.new }
 {
     match c {
         Command::SetUp(clients, directories, replicas, f, rq, wq, top, word) => {
-            let first = page(word);
             let k = Conf {
                 clients,
                 directories,
@@ -40,10 +33,9 @@ pub(crate) fn reply(m: &mut [u32], w: &mut [u32], wide: bool, c: Command) -> Rep
                 top,
                 columns: 0,
             };
-            given(machine::set_up(m, k, &first), 0, false)
+            (machine::set_up::<L>(m, k, &page(word)), 0)
         }
         Command::Columns(clients, directories, replicas, f, columns, top, word) => {
-            let first = page(word);
             let k = Conf {
                 clients,
                 directories,
@@ -54,48 +46,43 @@ pub(crate) fn reply(m: &mut [u32], w: &mut [u32], wide: bool, c: Command) -> Rep
                 top,
                 columns,
             };
-            given(machine::wide::set_up(w, k, &first), 0, true)
+            (machine::set_up::<L>(m, k, &page(word)), 0)
         }
-        Command::Read(client) => {
-            if wide {
-                return given(machine::wide::start_read(w, client), 0, true);
-            }
-            given(machine::start_read(m, client), 0, false)
-        }
-        Command::Write(client, word) => {
-            let new = page(word);
-            if wide {
-                return given(machine::wide::start_write(w, client, &new), 0, true);
-            }
-            given(machine::start_write(m, client, &new), 0, false)
-        }
+        Command::Read(client) => (machine::start_read::<L>(m, client), 0),
+        Command::Write(client, word) => (machine::start_write::<L>(m, client, &page(word)), 0),
         Command::Deliver(slot) => {
             let mut filled = page(0);
-            if wide {
-                let a = machine::wide::deliver(w, slot, &mut filled);
-                return given(a, filled[0], true);
-            }
-            let a = machine::deliver(m, slot, &mut filled);
-            given(a, filled[0], false)
+            let answer = machine::deliver::<L>(m, slot, &mut filled);
+            (answer, filled[0])
         }
-        Command::Gossip(from, to) => {
-            if wide {
-                return given(machine::wide::gossip(w, from, to), 0, true);
-            }
-            given(machine::gossip(m, from, to), 0, false)
-        }
-        Command::Tidy(replica) => {
-            if wide {
-                return given(machine::wide::tidy(w, replica), 0, true);
-            }
-            given(machine::tidy(m, replica), 0, false)
-        }
-        Command::Crash(kind, id) => {
-            if wide {
-                return given(machine::wide::crash(w, kind, id), 0, true);
-            }
-            given(machine::crash(m, kind, id), 0, false)
-        }
-        Command::Malformed => given(answers::coded(18), 0, wide),
+        Command::Gossip(from, to) => (machine::gossip::<L>(m, from, to), 0),
+        Command::Tidy(replica) => (machine::tidy::<L>(m, replica), 0),
+        Command::Crash(kind, id) => (machine::crash::<L>(m, kind, id), 0),
+        // no call: the paper's code, from no machine
+        Command::Malformed => (answers::coded(18), 0),
     }
+}
+
+// Whether a command goes to the wide machine: S and C name theirs, and `wide` says which is in force.
+fn goes_wide(c: Command, wide: bool) -> bool
+    ensures { result ≡ goes_wide c wide }
+{
+    match c {
+        Command::SetUp(..) => false,
+        Command::Columns(..) => true,
+        _ => wide,
+    }
+}
+
+// Makes the call that a command is on the machine that it names.
+pub(crate) fn reply(m: &mut [u32], w: &mut [u32], wide: bool, c: Command) -> Reply
+    ensures { Replied c (machines wide m.old w.old) result m.new w.new }
+{
+    let wide = goes_wide(c, wide);
+    let (answer, word) = if wide {
+        call::<Wide>(w, c)
+    } else {
+        call::<Base>(m, c)
+    };
+    Reply { answer, word, wide }
 }

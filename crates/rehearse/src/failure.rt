@@ -11,10 +11,7 @@ pub enum Failure {
 impl Failure {
     // Whether it is only that nobody reads the answers any more.
     pub fn is_quiet(&self) -> bool {
-        match self {
-            Failure::Reading(_) => false,
-            Failure::Writing(e) => e.kind() == ErrorKind::BrokenPipe,
-        }
+        matches!(self, Failure::Writing(e) if e.kind() == ErrorKind::BrokenPipe)
     }
 }
 

@@ -6,11 +6,11 @@ use Prim.Native.Nat.{ℕ, ◌+◌, ◌≤◌, ◌<◌}
 use native.Mathlib.Omega.{arith}
 use lib.Dec.{T, eqb, leb, leb→le, nleb→lt, T_not}
 use Rattle.sets.specs.Plain.{one_of}
-use Rattle.sets.specs.declared.Order.TheVariants.{Greater}
+use Rattle.std.specs.declared.cmp.Ordering.TheVariants.{Greater}
 use Rattle.sets.specs.Tags.{against}
 use Rattle.sets.specs.Sets.{size, join, with}
 use Rattle.sets.proofs.Tests.{if_ind}
-use Rattle.sets.proofs.TagOrder.{◌≼◌, ◌≺◌, ≼_refl, ≺→≼, ≺_irrefl, view, is_lower_view, is_same, is_greater, Greater→≻}
+use Rattle.sets.proofs.TagOrder.{◌≼◌, ◌≺◌, ≼_refl, ≺→≼, ≺_irrefl, view, is_below, is_same, is_above, Greater→≻}
 use Rattle.tables.specs.declared.Directory.{Directory}
 use Rattle.tables.specs.declared.Message.{Message}
 use Rattle.rules.specs.Directory.{holding, told, noticed, directory_after}
@@ -29,9 +29,9 @@ module _ (f : ℕ) (d : Directory) (x : Message) where
   told_view : Tells x → DirectoryView f d x (told f d x.tag x.set (against x.tag d.tag))
   told_view t =
       elim (view x.tag d.tag) [
-        | is_lower_view e h ↦ rw e (stays (λ _ _. h))
+        | is_below e h ↦ rw e (stays (λ _ _. h))
         | is_same e h ↦ rw e (joins t h)
-        | is_greater e h ↦ rw e
+        | is_above e h ↦ rw e
             (if_ind (DirectoryView f d x) (leb (f + 1) (size x.set)) (λ l. takes t h (leb→le (f + 1) (size x.set) l))
             (λ l. stays (λ _ m. absurd (omega (arith, nleb→lt (f + 1) (size x.set) l)))))
       ]
@@ -43,9 +43,9 @@ module _ (f : ℕ) (d : Directory) (x : Message) where
       → DirectoryView f d x (noticed d x.sender (against x.tag d.tag))
   noticed_view n t =
       elim (view x.tag d.tag) [
-        | is_lower_view e h ↦ rw e (untold n)
+        | is_below e h ↦ rw e (untold n)
         | is_same e h ↦ rw e (adds t h)
-        | is_greater e h ↦ rw e (untold n)
+        | is_above e h ↦ rw e (untold n)
       ]
 
   pub directory_view : DirectoryView f d x (directory_after f d x)

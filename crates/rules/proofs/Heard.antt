@@ -4,12 +4,12 @@ use mathlib.Core.Logic.{◌⊎◌, ⊎_elim}
 use Prim.Native.Nat.{ℕ}
 use lib.Dec.{eqb, T_not}
 use Rattle.sets.specs.declared.Tag.{Tag}
-use Rattle.sets.specs.declared.Order.{Order}
-use Rattle.sets.specs.declared.Order.TheVariants.{Lower, Same, Greater}
+use Rattle.std.specs.declared.cmp.Ordering.{Ordering}
+use Rattle.std.specs.declared.cmp.Ordering.TheVariants.{Less, Equal, Greater}
 use Rattle.sets.specs.Tags.{against}
 use Rattle.sets.specs.Sets.{with}
 use Rattle.sets.proofs.Tests.{if_ind}
-use Rattle.sets.proofs.TagOrder.{◌≼◌, ≼_refl, ≺→≼, view, is_lower_view, is_same, is_greater}
+use Rattle.sets.proofs.TagOrder.{◌≼◌, ≼_refl, ≺→≼, view, is_below, is_same, is_above}
 use Rattle.tables.specs.declared.Client.{Client}
 use Rattle.tables.specs.declared.Message.{Message}
 use Rattle.rules.specs.Client.{hearing, gathered, raised, heard}
@@ -29,15 +29,15 @@ module _ (w : Client) (x : Message) where
       if_ind P (eqb w.phase 1) (λ _. gathers (against x.tag w.tag))
       (λ _. if_ind P (eqb w.phase 4) (λ _. raises (against x.tag w.tag)) (λ _. f _ _))
     where
-      gathers : (o : Order) → P (gathered w (with w.answered x.sender) x.tag x.set o)
+      gathers : (o : Ordering) → P (gathered w (with w.answered x.sender) x.tag x.set o)
       gathers Greater = f _ _
-      gathers Same = f _ _
-      gathers Lower = f _ _
+      gathers Equal = f _ _
+      gathers Less = f _ _
 
-      raises : (o : Order) → P (raised w (with w.answered x.sender) x.tag o)
+      raises : (o : Ordering) → P (raised w (with w.answered x.sender) x.tag o)
       raises Greater = f _ _
-      raises Same = f _ _
-      raises Lower = f _ _
+      raises Equal = f _ _
+      raises Less = f _ _
 
   pub heard_keeps : Kept w (heard w x)
   heard_keeps = heard_ind (Kept w) (λ s t. record { down = refl; phase = refl; number = refl; spare = refl; page = refl })
@@ -50,12 +50,12 @@ module _ (w : Client) (x : Message) where
     pub own : w.tag ≼ y.tag
     pub told : x.tag ≼ y.tag
 
-  over : (y : Order → Client) → (y Lower).tag ≡ w.tag → (y Same).tag ≡ w.tag → (y Greater).tag ≡ x.tag → Over (y (against x.tag w.tag))
+  over : (y : Ordering → Client) → (y Less).tag ≡ w.tag → (y Equal).tag ≡ w.tag → (y Greater).tag ≡ x.tag → Over (y (against x.tag w.tag))
   over y l s g =
       elim (view x.tag w.tag) [
-        | is_lower_view e h ↦ rw e (record { own = rw l (≼_refl _); told = rw l (≺→≼ h) })
+        | is_below e h ↦ rw e (record { own = rw l (≼_refl _); told = rw l (≺→≼ h) })
         | is_same e h ↦ rw e (record { own = rw s (≼_refl _); told = rw (s, h) (≼_refl _) })
-        | is_greater e h ↦ rw e (record { own = rw g (≺→≼ h); told = rw g (≼_refl _) })
+        | is_above e h ↦ rw e (record { own = rw g (≺→≼ h); told = rw g (≼_refl _) })
       ]
 
   -- in phases 1 and 4 the greater tag stays

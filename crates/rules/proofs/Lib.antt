@@ -1,8 +1,7 @@
--- The laws of the rules. Cases, Marks, Chosen and the functions' proofs may change freely; `machine`, `runs` and `history` cite the others.
-pub mod Cases
+-- The laws of the rules. Tidying, Chosen and the functions' proofs may change freely; `machine`, `runs` and `history` cite the others.
 pub mod Stock
 pub mod Entries
-pub mod Marks
+pub mod Tidying
 pub mod Columns
 pub mod Enough
 pub mod DirectoryViews

@@ -1,17 +1,19 @@
 -- The words of a replica with other entries: read again, written again, and with one entry replaced.
+use Rattle.std.specs.Prelude.{None, Some, position}
 use mathlib.Core.Path.{◌≡◌, sym, ap, ◌∙◌}
 use mathlib.Core.List.{List, ◌++◌}
 use Prim.Native.Nat.{ℕ, ◌*◌, ◌-◌, ◌≤◌, ◌<◌}
 use native.Mathlib.Omega.{arith}
-use lib.ListN.{length, get_or, set, take, drop, length-append, length-drop, length-set, take-append-drop, get_or-eq_default}
+use lib.ListN.{length, get_or, set, take, drop, length-set, take-append-drop}
 use lib.Seq.{drop_at, set_out}
 use Rattle.tables.specs.declared.Entry.{Entry}
-use Rattle.tables.specs.Rows.{rows_words}
+use Rattle.tables.specs.Rows.{rows_words, put_first}
 use Rattle.tables.specs.Inner.{put, with_entries}
-use Rattle.tables.specs.Tables.{no_entry}
+use Rattle.tables.specs.Tables.{no_entry, is_free}
 use Rattle.tables.specs.Words.{entry_words, replica_words}
 use Rattle.tables.specs.Machines.{entry_of, entries_of}
 use Rattle.tables.proofs.All.{all_map, all_set}
+use Rattle.tables.proofs.Lists.{put_first_some, put_first_none}
 use Rattle.tables.proofs.Table.{put_before, rows_set}
 use Rattle.tables.proofs.Parts.{rest_all, put_rest}
 use Rattle.tables.proofs.Read.{replica_words_lem, entry_at, entries_many}
@@ -39,9 +41,6 @@ module _ (l : List ℕ) (es : List Entry) (s : Stock es) where
   pub entries_with : entries_of (with_entries l es) ≡ es
   unfolding replica_words
   entries_with = rw with_is (entries_back (record { down = 0; entries = es }) (drop 240 l) s)
-
-  pub length_with : 240 ≤ length l → length (with_entries l es) ≡ length l
-  length_with h = rw (with_is, length-append (rows_words entry_words es) (drop 240 l), rows_long, length-drop 240 l) (omega arith)
 
   rest_with : drop 240 (with_entries l es) ≡ drop 240 l
   rest_with = rw with_is (drop_at (rows_words entry_words es) (drop 240 l) 240 rows_long)
@@ -79,9 +78,15 @@ module _ (l : List ℕ) (h : 240 ≤ length l) where
     pub entry_past : 12 ≤ j → l ≡ with_entries l (set (entries_of l) j e)
     entry_past k = rw (set_out (entries_of l) j e (rw (entries_many l) k)) (sym with_own)
 
--- entry j, read from the part that begins with it; past the last entry a free one
+-- entry j, read from the part that begins with it
 pub entry_got : (l : List ℕ) (j : ℕ) (e : Entry) → j < 12 → e ≡ entry_of (take (length l - j * 20) (drop (j * 20) l)) → e ≡ get_or (entries_of l) j no_entry
 entry_got l j e h f = f ∙ rw (rest_all l (j * 20)) (sym (entry_at l j h))
 
-pub entry_none : (l : List ℕ) (j : ℕ) (e : Entry) → 12 ≤ j → e ≡ no_entry → e ≡ get_or (entries_of l) j no_entry
-entry_none l j e h f = f ∙ sym (get_or-eq_default (entries_of l) no_entry (rw (entries_many l) h))
+-- an entry put into the lowest free one
+module _ (l : List ℕ) (e : Entry) where
+  pub stored : (j : ℕ) (m : List ℕ) → Some j ≡ position is_free (entries_of l) → m ≡ with_entries l (set (entries_of l) j e)
+      → m ≡ with_entries l (put_first is_free e (entries_of l))
+  stored j m k h = rw (put_first_some is_free e (entries_of l) k) h
+
+  pub not_stored : 240 ≤ length l → None ≡ position is_free (entries_of l) → l ≡ with_entries l (put_first is_free e (entries_of l))
+  not_stored h k = rw (put_first_none is_free e (entries_of l) k) (sym (with_own l h))

@@ -4,6 +4,7 @@ use mathlib.Core.Bool.{Bool, not, ◌||◌}
 use Prim.Native.Nat.{ℕ, ◌+◌, ◌≤◌, ◌<◌}
 use native.Mathlib.Omega.{arith}
 use native.Mathlib.Decide.{ℕ_discrete}
+use borrow.Author.Tests.{ne_eqb}
 use lib.Dec.{T, eqb, leb, eqb→eq, leb→le, nleb→lt, T_not, eqb_refl}
 use Rattle.sets.specs.declared.Tag.{Tag}
 use Rattle.sets.specs.Tags.{tag}
@@ -17,8 +18,12 @@ use Rattle.tables.specs.Phases.{rounds_left}
 use Rattle.rules.specs.declared.Outcome.{Outcome}
 use Rattle.rules.specs.declared.Outcome.TheVariants.{Waiting, Next, ReadEnded, WriteEnded, Spent, Stale}
 use Rattle.rules.specs.Client.{awaited, enough_for, is_stale, heard, chosen, turned, outcome}
-use Rattle.rules.proofs.Cases.{none_awaited}
 use Rattle.rules.proofs.Heard.{heard_keeps}
+
+-- idle, or no phase at all
+none_awaited : (p : ℕ) → (p ≡ 1 → ⊥) → (p ≡ 2 → ⊥) → (p ≡ 3 → ⊥) → (p ≡ 4 → ⊥) → (p ≡ 5 → ⊥) → (p ≡ 6 → ⊥) → 0 ≡ awaited p
+unfolding awaited
+none_awaited p a b c d e f = simp (ne_eqb _ _ a, ne_eqb _ _ b, ne_eqb _ _ c, ne_eqb _ _ d, ne_eqb _ _ e, ne_eqb _ _ f)
 
 -- a reply that is not stale
 pub record Timely (w : Client) (x : Message) : Type 0 where

@@ -2,7 +2,7 @@
 use Rattle.std.specs.Prelude.{◌≡◌, refl, List, [], ◌∷◌, ℕ}
 use Rattle.std.specs.Int.Count.{ones}
 use Rattle.sets.specs.declared.Tag.{Tag}
-use Rattle.sets.specs.declared.Order.TheVariants.{Lower}
+use Rattle.std.specs.declared.cmp.Ordering.TheVariants.{Less}
 use Rattle.sets.specs.Tags.{tag, first, against}
 use Rattle.sets.specs.Sets.{with}
 use Rattle.tables.specs.declared.Directory.{Directory}
@@ -77,8 +77,8 @@ Hold (line n case result ∷ ls) = (case ≡ result) × Hold ls
 
 abbrev pub table : List Line
 table =
-    line 1 (against (tag 1 2) (tag 2 1)) Lower
-    ∷ line 2 (against (tag 2 1) (tag 2 2)) Lower
+    line 1 (against (tag 1 2) (tag 2 1)) Less
+    ∷ line 2 (against (tag 2 1) (tag 2 2)) Less
     ∷ line 3 (takes (wwrite (tag 3 1) (2 ∷ 3 ∷ []))) (replies (directory (tag 3 1) (1 ∷ 2 ∷ 3 ∷ [])))
     ∷ line 4 (takes (wwrite (tag 2 2) (2 ∷ 3 ∷ []))) (replies D)
     ∷ line 5 (takes (wwrite (tag 4 1) (3 ∷ []))) (replies D)

@@ -2,8 +2,8 @@
 use Rattle.std.specs.Prelude.{Bool, true, not, ◌||◌, ℕ, ◌+◌, leb, eqb, [], ◌∷◌, if◌then◌else◌}
 use Rattle.sets.specs.Plain.{one_of}
 use Rattle.sets.specs.declared.Tag.{Tag}
-use Rattle.sets.specs.declared.Order.{Order}
-use Rattle.sets.specs.declared.Order.TheVariants.{Lower, Same, Greater}
+use Rattle.std.specs.declared.cmp.Ordering.{Ordering}
+use Rattle.std.specs.declared.cmp.Ordering.TheVariants.{Less, Equal, Greater}
 use Rattle.sets.specs.Tags.{tag, first, against}
 use Rattle.sets.specs.Sets.{has, size, join, with, all}
 use Rattle.tables.specs.declared.Conf.{Conf}
@@ -49,16 +49,16 @@ hearing w a s t =
     record { down = w.down; phase = w.phase; number = w.number; answered = a; replicas = s; tag = t; spare = w.spare; page = w.page }
 
 -- "In 1, a greater tag replaces tag and set, an equal tag joins the sets": the reply has tag t and set s
-abbrev pub gathered : Client → ℕ → Tag → ℕ → Order → Client
+abbrev pub gathered : Client → ℕ → Tag → ℕ → Ordering → Client
 gathered w a t s Greater = hearing w a s t
-gathered w a t s Same = hearing w a (join w.replicas s) w.tag
-gathered w a t s Lower = hearing w a w.replicas w.tag
+gathered w a t s Equal = hearing w a (join w.replicas s) w.tag
+gathered w a t s Less = hearing w a w.replicas w.tag
 
 -- "in 4, the greater tag stays"
-abbrev pub raised : Client → ℕ → Tag → Order → Client
+abbrev pub raised : Client → ℕ → Tag → Ordering → Client
 raised w a t Greater = hearing w a w.replicas t
-raised w a t Same = hearing w a w.replicas w.tag
-raised w a t Lower = hearing w a w.replicas w.tag
+raised w a t Equal = hearing w a w.replicas w.tag
+raised w a t Less = hearing w a w.replicas w.tag
 
 -- the row with the reply counted in
 unfoldable pub heard : Client → Message → Client

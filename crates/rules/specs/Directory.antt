@@ -2,8 +2,8 @@
 use Rattle.std.specs.Prelude.{ℕ, ◌+◌, leb, eqb, [], ◌∷◌, if◌then◌else◌}
 use Rattle.sets.specs.Plain.{one_of}
 use Rattle.sets.specs.declared.Tag.{Tag}
-use Rattle.sets.specs.declared.Order.{Order}
-use Rattle.sets.specs.declared.Order.TheVariants.{Lower, Same, Greater}
+use Rattle.std.specs.declared.cmp.Ordering.{Ordering}
+use Rattle.std.specs.declared.cmp.Ordering.TheVariants.{Less, Equal, Greater}
 use Rattle.sets.specs.Tags.{first, against}
 use Rattle.sets.specs.Sets.{size, join, only, with}
 use Rattle.tables.specs.declared.Directory.{Directory}
@@ -17,16 +17,16 @@ holding d t s = record { down = d.down; tag = t; set = s }
 
 -- 2 and 4 with tag t and set s, by how t stands against the directory's own: "equals its own, join the sets;
 -- greater and the set has at least f + 1 members, take tag and set; otherwise no change"
-abbrev pub told : ℕ → Directory → Tag → ℕ → Order → Directory
-told f d t s Same = holding d d.tag (join d.set s)
+abbrev pub told : ℕ → Directory → Tag → ℕ → Ordering → Directory
+told f d t s Equal = holding d d.tag (join d.set s)
 told f d t s Greater = if leb (f + 1) (size s) then holding d t s else d
-told f d t s Lower = d
+told f d t s Less = d
 
 -- 14 from replica r: "equal tag, add the sender; otherwise no change"
-abbrev pub noticed : Directory → ℕ → Order → Directory
-noticed d r Same = holding d d.tag (with d.set r)
+abbrev pub noticed : Directory → ℕ → Ordering → Directory
+noticed d r Equal = holding d d.tag (with d.set r)
 noticed d r Greater = d
-noticed d r Lower = d
+noticed d r Less = d
 
 unfoldable pub directory_after : ℕ → Directory → Message → Directory
 directory_after f d x =

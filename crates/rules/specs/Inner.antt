@@ -1,13 +1,10 @@
 -- What the rules ask of their caller, no more than every good machine gives, and what inner functions give. Nothing of the paper stands here.
-use Rattle.std.specs.Prelude.{Bool, true, false, not, List, [], ◌∷◌, ◌≡◌, eqb, length, ℕ, ◌+◌, ◌-◌, ◌%◌, ◌≤◌, ◌<◌, if◌then◌else◌}
-use Rattle.sets.specs.Tags.{lower}
+use Rattle.std.specs.Prelude.{Bool, true, false, not, List, [], ◌∷◌, ◌≡◌, length, ℕ, ◌+◌, ◌-◌, ◌%◌, ◌≤◌, ◌<◌, if◌then◌else◌}
 use Rattle.sets.specs.Sets.{has, with}
 use Rattle.sets.specs.declared.Tag.{Tag}
 use Rattle.tables.specs.declared.Conf.{Conf}
 use Rattle.tables.specs.declared.Client.{Client}
-use Rattle.tables.specs.declared.Entry.{Entry}
 use Rattle.tables.specs.declared.Message.{Message}
-use Rattle.tables.specs.Tables.{no_entry}
 use Rattle.tables.specs.Phases.{rounds_left}
 use Rattle.rules.specs.declared.Outcome.{Outcome}
 use Rattle.rules.specs.declared.Outcome.TheVariants.{Next}
@@ -44,16 +41,6 @@ pub record AfterAble (w : Client) (x : Message) (o : Outcome) : Type 0 where
 pub record Few (k : Conf) : Type 0 where
   pub directories : k.directories ≤ 31
   pub replicas : k.replicas ≤ 31
-
--- tidy's list: 1 for an entry that goes, else 0
-abbrev pub mark : Tag → Entry → ℕ
-mark high e = if lower e.tag high then 1 else 0
-
--- the entries with the marked ones freed
-unfoldable pub free_marked : List ℕ → List Entry → List Entry
-free_marked [] es = es
-free_marked (n ∷ ns) [] = []
-free_marked (n ∷ ns) (e ∷ es) = (if eqb n 1 then no_entry else e) ∷ free_marked ns es
 
 -- some columns, and no more of them and of directories than a set can hold
 pub record FewColumns (k : Conf) : Type 0 where

@@ -28,8 +28,7 @@ pub fn answer_of(own: u32, o: Outcome) -> Answer
     ensures { result ≡ answer_of own o }
 {
     match o {
-        Outcome::Waiting => coded(0),
-        Outcome::Next(_) => coded(0),
+        Outcome::Waiting | Outcome::Next(_) => coded(0),
         Outcome::ReadEnded(t, mark) => answer(1, own, t, mark),
         Outcome::WriteEnded(t) => answer(2, own, t, 0),
         Outcome::Spent => answer(3, own, FIRST, 0),

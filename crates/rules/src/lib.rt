@@ -22,7 +22,7 @@ pub enum Outcome {
     Stale,
 }
 
-// What a step hands back.
+// What a step hands back: numbers, as document 01's table of codes gives them to the host.
 #[derive(Clone, Copy)]
 pub struct Answer {
     pub code: u32,

@@ -1,56 +1,66 @@
-// The replica's rule, on the 240 words of its entries. Entries count from 0 here.
-ghost use Rattle.std.specs.Prelude.{◌≡◌, ◌≤◌, length, get_or, set};
+// The replica's rule, on the 240 words of its entries, lent as the part that begins there ("is handed to the rule function as a part"). Entries count from 0 here. A message holds any word as its kind, so the kinds are told apart by number, as document 01 asks.
+ghost use Rattle.std.specs.Prelude.{◌≡◌, ◌≤◌, ◌<◌, length, find, get_or, set};
 ghost use Rattle.tables.specs.Rows.{put_first};
-ghost use Rattle.tables.specs.Tables.{no_entry, is_free};
+ghost use Rattle.tables.specs.Tables.{no_entry, is_free, has_tag};
 ghost use Rattle.tables.specs.Machines.{entries_of};
 ghost use Rattle.tables.specs.Inner.{with_entries};
-ghost use Rattle.rules.specs.Replica.{highest, higher_of, secure, write, hear_gossip, read, mark, replica_after, replica_post, is_full, gossip_post};
+ghost use Rattle.rules.specs.Replica.{entry, entry_with, highest, higher_of, secure, write, hear_gossip, read, mark, replica_after, replica_post, is_full, gossip_post};
 ghost use Rattle.rules.specs.Inner.{Sender, ReplicaAble};
 
 use mail::{Post, posts};
-use sets::{FIRST, Order, Tag};
+use sets::{FIRST, Tag};
 use tables::{Entry, Message, blank, rows, search};
 
 // The higher of t and an entry's tag, where the entry is secured.
+#[tactic(auto, using(std::proofs::lemmas::Bool::Decides::nat_tests), unfolding(crate::specs::Replica::higher_of))]
 fn higher_of(t: Tag, e: Entry) -> Tag
     ensures { result ≡ higher_of t e }
 {
-    let new = e.tag;
-    if e.state == 2 {
-        return match sets::compare(t, new) {
-            Order::Lower => new,
-            Order::Same => t,
-            Order::Greater => t,
-        };
+    if e.state == 2 && sets::compare(t, e.tag).is_lt() {
+        return e.tag;
     }
     t
 }
 
+// Entry j.
+#[tactic(auto, using(crate::proofs::Stock::entry_got))]
+pub(crate) fn entry_at(l: &[u32], j: usize) -> Entry
+    requires { (240 ≤ length l.now) × (j < 12) }
+    ensures { result ≡ get_or (entries_of l.now) j no_entry }
+{
+    rows::entry_at(&l[j * rows::ENTRY_ROW..])
+}
+
 // The highest secured tag: from the last entry to the first.
+#[tactic(auto, using(crate::proofs::Entries::highest_none, crate::proofs::Entries::highest_more, crate::proofs::Entries::highest_end))]
 pub fn highest_of(l: &[u32]) -> Tag
     requires { 240 ≤ length l.now }
     ensures { result ≡ highest (entries_of l.now) }
 {
     let mut t = FIRST;
-    let mut j: usize = 12;
-    while 0 < j {
-        j -= 1;
-        let at = j * rows::ENTRY_ROW;
-        t = higher_of(t, rows::entry_at(&l[at..]));
+    for j in (0..12).rev() {
+        t = higher_of(t, entry_at(l, j));
     }
     t
 }
 
-// Entry j, or a free one where there is none.
-fn entry_in(l: &[u32], j: usize) -> Entry
+// The entry that has the tag.
+#[tactic(auto, using(crate::proofs::Entries::inside, crate::proofs::Entries::found, crate::proofs::Entries::not_found))]
+fn entry_of(l: &[u32], t: Tag) -> Option<Entry>
     requires { 240 ≤ length l.now }
-    ensures { result ≡ get_or (entries_of l.now) j no_entry }
+    ensures { result ≡ find (has_tag t) (entries_of l.now) }
 {
-    if j < 12 {
-        let at = j * rows::ENTRY_ROW;
-        return rows::entry_at(&l[at..]);
-    }
-    blank::no_entry()
+    let j = search::tag_place(l, t)?;
+    Some(entry_at(l, j))
+}
+
+// The highest secured entry, or a free one where none is secured.
+#[tactic(auto, using(crate::proofs::Entries::entry_with_find))]
+fn highest_entry(l: &[u32]) -> Entry
+    requires { 240 ≤ length l.now }
+    ensures { result ≡ entry_with (highest (entries_of l.now)) (entries_of l.now) }
+{
+    entry_of(l, highest_of(l)).unwrap_or(blank::no_entry())
 }
 
 // What a read finds: an entry, and the mark that says which one.
@@ -61,157 +71,141 @@ pub struct Found {
 }
 
 // Kind 9: the entry of the tag, or else the highest secured one.
+#[tactic(auto, using(crate::proofs::Entries::read_found, crate::proofs::Entries::read_missing))]
 pub fn read_in(l: &[u32], t: Tag) -> Found
     requires { 240 ≤ length l.now }
     ensures { result ≡ record { entry = read t (entries_of l.now); mark = mark t (entries_of l.now) } }
 {
-    let j = search::tag_place(l, t);
-    if j < 12 {
-        return Found {
-            entry: entry_in(l, j),
-            mark: 1,
-        };
-    }
-    let high = highest_of(l);
-    let h = search::tag_place(l, high);
-    Found {
-        entry: entry_in(l, h),
-        mark: 0,
+    match entry_of(l, t) {
+        Some(entry) => Found { entry, mark: 1 },
+        None => Found {
+            entry: highest_entry(l),
+            mark: 0,
+        },
     }
 }
 
 // Entry j becomes e, where there is one.
+#[tactic(auto, using(crate::proofs::Stock::entry_written, crate::proofs::Stock::entry_past))]
 pub fn put_in(l: &mut [u32], j: usize, e: Entry)
     requires { 240 ≤ length l.old }
     ensures { l.new ≡ with_entries l.old (set (entries_of l.old) j e) }
 {
     if j < 12 {
-        let at = j * rows::ENTRY_ROW;
-        rows::put_entry(&mut l[at..], e);
+        rows::put_entry(&mut l[j * rows::ENTRY_ROW..], e);
     }
 }
 
-// The lowest free entry becomes e.
-fn store(l: &mut [u32], e: Entry)
+// Tag and page are put into the lowest free entry.
+#[tactic(auto, using(crate::proofs::Stock::not_stored))]
+fn store(l: &mut [u32], state: u32, tag: Tag, page: [u32; 16])
     requires { 240 ≤ length l.old }
-    ensures { l.new ≡ with_entries l.old (put_first is_free e (entries_of l.old)) }
+    ensures { l.new ≡ with_entries l.old (put_first is_free (entry state tag page) (entries_of l.old)) }
 {
-    let j = search::free_entry(l);
-    put_in(l, j, e);
+    if let Some(j) = search::free_entry(l) {
+        let e = Entry {
+            state,
+            tag,
+            spare: 0,
+            page,
+        };
+        put_in(l, j, e);
+    }
 }
 
 // Kind 11.
+#[tactic(auto, using(crate::proofs::Entries::inside, crate::proofs::Entries::not_secures))]
 fn secure_in(l: &mut [u32], t: Tag)
     requires { 240 ≤ length l.old }
     ensures { l.new ≡ with_entries l.old (secure t (entries_of l.old)) }
 {
-    let j = search::tag_place(l, t);
-    let mut e = entry_in(l, j);
-    e.state = 2;
-    put_in(l, j, e);
+    if let Some(j) = search::tag_place(l, t) {
+        let e = entry_at(l, j);
+        put_in(l, j, Entry { state: 2, ..e });
+    }
 }
 
 // Kind 10.
+#[tactic(auto, using(crate::proofs::Entries::there_by, crate::proofs::Stock::with_own), unfolding(crate::specs::Replica::write))]
 fn write_in(l: &mut [u32], t: Tag, page: [u32; 16])
     requires { 240 ≤ length l.old }
     ensures { l.new ≡ with_entries l.old (write t page (entries_of l.old)) }
 {
-    let j = search::tag_place(l, t);
-    if j < 12 {
-        return;
+    if search::tag_place(l, t).is_none() {
+        store(l, 1, t, page);
     }
-    let e = Entry {
-        state: 1,
-        tag: t,
-        spare: 0,
-        page,
-    };
-    store(l, e);
 }
 
 // Kind 15.
+#[tactic(auto, using(crate::proofs::Entries::there_by), unfolding(crate::specs::Replica::hear_gossip))]
 fn gossip_in(l: &mut [u32], t: Tag, page: [u32; 16])
     requires { 240 ≤ length l.old }
     ensures { l.new ≡ with_entries l.old (hear_gossip t page (entries_of l.old)) }
 {
-    let j = search::tag_place(l, t);
-    if j < 12 {
+    if search::tag_place(l, t).is_none() {
+        store(l, 2, t, page);
+    } else {
         secure_in(l, t);
-        return;
     }
-    let e = Entry {
-        state: 2,
-        tag: t,
-        spare: 0,
-        page,
-    };
-    store(l, e);
 }
 
 // The entries after a message.
+#[tactic(auto, using(std::proofs::lemmas::Bool::Decides::nat_tests, crate::proofs::Stock::with_own), unfolding(crate::specs::Replica::replica_after))]
 pub fn take_in(l: &mut [u32], x: Message)
     requires { 240 ≤ length l.old }
     ensures { l.new ≡ with_entries l.old (replica_after (entries_of l.old) x) }
 {
-    let kind = x.kind;
-    let t = x.tag;
-    let page = x.page;
-    match kind {
-        10 => write_in(l, t, page),
-        11 => secure_in(l, t),
-        15 => gossip_in(l, t, page),
+    match x.kind {
+        10 => write_in(l, x.tag, x.page),
+        11 => secure_in(l, x.tag),
+        15 => gossip_in(l, x.tag, x.page),
         _ => {}
     }
 }
 
 // FULL: a new tag and no free entry.
+#[tactic(auto, using(std::proofs::lemmas::Bool::Decides::nat_tests, crate::proofs::Entries::there_by, tables::proofs::Lists::some_position), unfolding(crate::specs::Replica::is_full))]
 pub fn full(l: &[u32], x: Message) -> bool
     requires { 240 ≤ length l.now }
     ensures { result ≡ is_full (entries_of l.now) x }
 {
-    let kind = x.kind;
-    let t = x.tag;
-    ((kind == 10) | (kind == 15)) & !(search::tag_place(l, t) < 12) & !(search::free_entry(l) < 12)
+    match x.kind {
+        10 | 15 => search::tag_place(l, x.tag).is_none() && search::free_entry(l).is_none(),
+        _ => false,
+    }
 }
 
 // What it sends, from the entries before the message.
+#[tactic(auto, using(std::proofs::lemmas::Bool::Decides::nat_tests), unfolding(crate::specs::Replica::replica_post))]
 pub fn post(nd: u32, l: &[u32], x: Message) -> Post
     requires { ReplicaAble nd l.now x }
     ensures { result ≡ replica_post nd (entries_of l.now) x }
 {
-    let kind = x.kind;
-    let t = x.tag;
-    match kind {
+    match x.kind {
         9 => {
-            let found = read_in(l, t);
-            let e = found.entry;
-            let copy = e.tag;
-            let page = e.page;
+            let Found { entry, mark } = read_in(l, x.tag);
             posts::paged(
                 12,
                 x.receiver,
-                copy,
-                found.mark,
+                entry.tag,
+                mark,
                 x.number,
-                page,
+                entry.page,
                 sets::only_of(x.sender),
             )
         }
         10 => posts::bare(13, x.receiver, FIRST, 0, x.number, sets::only_of(x.sender)),
-        15 => posts::bare(14, x.receiver, t, 0, 0, sets::all_of(nd)),
+        15 => posts::bare(14, x.receiver, x.tag, 0, 0, sets::all_of(nd)),
         _ => posts::nothing(),
     }
 }
 
 // Gossip: the highest secured entry.
+#[tactic(auto, unfolding(crate::specs::Replica::gossip_post))]
 pub fn gossip(l: &[u32], from: u32, to: u32) -> Post
     requires { (240 ≤ length l.now) × Sender to }
     ensures { result ≡ gossip_post (entries_of l.now) from to }
 {
-    let high = highest_of(l);
-    let h = search::tag_place(l, high);
-    let e = entry_in(l, h);
-    let t = e.tag;
-    let page = e.page;
-    posts::paged(15, from, t, 0, 0, page, sets::only_of(to))
+    let e = highest_entry(l);
+    posts::paged(15, from, e.tag, 0, 0, e.page, sets::only_of(to))
 }

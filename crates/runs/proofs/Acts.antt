@@ -1,8 +1,8 @@
 -- What an accepted call does: one walk through the calls, each way with its effect and what is then known. Later proofs are by cases over these ways, and a new call that does what another does costs them nothing.
+use Rattle.std.specs.Prelude.{Option, None, Some}
 use mathlib.Core.Bool.{true, not, ◌||◌}
 use mathlib.Core.List.{List, [], ◌∷◌}
 use mathlib.Core.Logic.{⊎_elim}
-use mathlib.Core.Option.{none}
 use mathlib.Core.Path.{◌≡◌, refl}
 use Prim.Native.Nat.{ℕ, ◌+◌, ◌≤◌}
 use lib.Dec.{T, eqb, leb, eqb→eq, leb→le, nltb→le, T_not}
@@ -12,11 +12,11 @@ use Rattle.sets.proofs.Tests.{T_true, not_not, and_elim, neither, not_both, if_i
 use Rattle.tables.specs.declared.Conf.{Conf}
 use Rattle.tables.specs.declared.Message.{Message}
 use Rattle.tables.specs.declared.Party.{Party}
-use Rattle.tables.specs.declared.Party.TheVariants.{Nobody, AClient, ADirectory, AReplica}
+use Rattle.tables.specs.declared.Party.TheVariants.{AClient, ADirectory, AReplica}
 use Rattle.tables.specs.Kinds.{receiver_of, many_of}
 use Rattle.tables.specs.Tables.{Page, no_page, Machine, client_at, directory_at, replica_at, slot_at, is_empty}
 use Rattle.mail.specs.Posts.{no_post}
-use Rattle.inspect.specs.Good.{between, good_numbers, is_party}
+use Rattle.inspect.specs.Good.{between, good_numbers, is_party, is_named_party}
 use Rattle.rules.specs.declared.Outcome.{Outcome}
 use Rattle.rules.specs.Answers.{coded, answer_of}
 use Rattle.rules.specs.Directory.{directory_after, directory_post}
@@ -24,7 +24,7 @@ use Rattle.rules.specs.Replica.{tidied, replica_after, replica_post, is_full, go
 use Rattle.rules.specs.Client.{started, client_after, request, client_post}
 use Rattle.rules.proofs.Views.{View, view}
 use Rattle.machine.specs.Effects.{nothing, client, directory, replica, anew, Effect}
-use Rattle.machine.specs.Calls.{Call, set_up, start_read, start_write, deliver, gossip, tidy, crash, report, party_of, asks, is_down, done, emptying, downed, start_effect, gossip_effect, tidy_effect, crash_effect}
+use Rattle.machine.specs.Calls.{Call, set_up, start_read, start_write, deliver, gossip, tidy, crash, report, party_of, asks, asked, is_down, done, emptying, downed, start_effect, gossip_effect, tidy_effect, crash_effect}
 use Rattle.machine.specs.Deliver.{taken, filled, received, client_effect, directory_effect, replica_effect, deliver_effect}
 use Rattle.machine.specs.Refusals.{is_busy, is_worn}
 use Rattle.machine.specs.Steps.{effect_of, code_of}
@@ -49,7 +49,7 @@ pub record Opens (M : Machine) (c : ℕ) : Type 0 where
 pub record Comes (M : Machine) (who : Party) (s : ℕ) : Type 0 where
   pub slot : Among 128 s
   pub full : T (not (is_empty (slot_at M s)))
-  pub whose : receiver_of (slot_at M s).kind ≡ who
+  pub whose : receiver_of (slot_at M s).kind ≡ Some who
 
 -- ---- the effects, written out
 
@@ -77,7 +77,7 @@ module _ (M : Machine) where
 pub data Acts (M : Machine) : Call → Effect → Type 0 where
   reads : (c : ℕ) → Opens M c → Acts M (start_read c) (begun M c 1 no_page)
   writes : (c : ℕ) (page : Page) → Opens M c → Acts M (start_write c page) (begun M c 4 page)
-  empties : (c : Call) (slots : List ℕ) (code : ℕ) → T (one_of code (0 ∷ 4 ∷ [])) → (asks c).start ≡ none → Acts M c (emptying slots code (asks c).fill)
+  empties : (c : Call) (slots : List ℕ) (code : ℕ) → T (one_of code (0 ∷ 4 ∷ [])) → (asks c).start ≡ None → Acts M c (emptying slots code (asks c).fill)
   directs : (s : ℕ) (page : Page) → Comes M ADirectory s → Acts M (deliver s page) (directed M s (slot_at M s) page)
   stores : (s : ℕ) (page : Page) → Comes M AReplica s → T (not (is_full (replica_at M (slot_at M s).receiver).entries (slot_at M s)))
       → Acts M (deliver s page) (stored M s (slot_at M s) page)
@@ -87,7 +87,7 @@ pub data Acts (M : Machine) : Call → Effect → Type 0 where
       → Acts M (gossip from to) (done nothing (gossip_post (replica_at M from).entries from to))
   tidies : (r : ℕ) → Among M.conf.replicas r
       → Acts M (tidy r) (done (replica r (record { down = (replica_at M r).down; entries = tidied (replica_at M r).entries })) no_post)
-  crashes : (kind id : ℕ) (who : Party) → Among (many_of M.conf who) id → Acts M (crash kind id) (done (downed M who id) no_post)
+  crashes : (kind id : ℕ) (who : Party) → Among (many_of M.conf who) id → Acts M (crash kind id) (done (downed M (Some who) id) no_post)
 
 -- any call
 pub data Accepted (M : Machine) : Call → Effect → Type 0 where
@@ -112,15 +112,15 @@ module _ (M : Machine) where
     abbrev x : Message
     x = slot_at M s
 
-    comes : (who : Party) → receiver_of x.kind ≡ who → Comes M who s
+    comes : (who : Party) → receiver_of x.kind ≡ Some who → Comes M who s
     comes who e = record { slot = among 128 s (not_not (between 1 128 s) h.argument); full = h.filled; whose = e }
 
-    takes : (who : Party) → receiver_of x.kind ≡ who → T (not (is_down M who x.receiver)) → Acts M (deliver s page) (received who M s x page)
+    takes : (who : Option Party) → receiver_of x.kind ≡ who → T (not (asked (λ party. is_down M party x.receiver) who)) → Acts M (deliver s page) (received who M s x page)
     unfolding client_effect directory_effect replica_effect
-    takes Nobody e up = empties (deliver s page) (s ∷ []) 0 tt refl
-    takes AClient e up = hears s page (comes AClient e) (view M.conf x.receiver (client_at M x.receiver) x h.filled)
-    takes ADirectory e up = directs s page (comes ADirectory e)
-    takes AReplica e up =
+    takes None e up = empties (deliver s page) (s ∷ []) 0 tt refl
+    takes (Some AClient) e up = hears s page (comes AClient e) (view M.conf x.receiver (client_at M x.receiver) x h.filled)
+    takes (Some ADirectory) e up = directs s page (comes ADirectory e)
+    takes (Some AReplica) e up =
         stores s page (comes AReplica e)
         (⊎_elim (λ u. absurd (T_not (not (is_down M AReplica x.receiver)) u up)) (λ u. u)
         (not_both (not (is_down M AReplica x.receiver)) (is_full (replica_at M x.receiver).entries x) h.free))
@@ -128,7 +128,11 @@ module _ (M : Machine) where
     delivered : Acts M (deliver s page) (deliver_effect M s page)
     unfolding deliver_effect
     delivered =
-        if_ind (Acts M (deliver s page)) (is_down M (receiver_of x.kind) x.receiver) (λ _. empties (deliver s page) (s ∷ []) 4 tt refl) (takes (receiver_of x.kind) refl)
+        if_ind (Acts M (deliver s page)) (asked (λ party. is_down M party x.receiver) (receiver_of x.kind)) (λ _. empties (deliver s page) (s ∷ []) 4 tt refl) (takes (receiver_of x.kind) refl)
+
+  crashed : (kind id : ℕ) (who : Option Party) → T (not (not (is_named_party M.conf who id))) → Acts M (crash kind id) (done (downed M who id) no_post)
+  crashed kind id None h = absurd h
+  crashed kind id (Some who) h = crashes kind id who (party who id h)
 
   by_call : (c : Call) → Allowed c M → Accepted M c (effect_of c M)
   unfolding effect_of start_effect gossip_effect tidy_effect crash_effect
@@ -144,7 +148,7 @@ module _ (M : Machine) where
       let i = neither a b (neither (a || b) (eqb from to) h.argument).0 in
       acts tt (gossips from to (party AReplica from i.0) (party AReplica to i.1))
   by_call (tidy r) h = acts tt (tidies r (party AReplica r h.argument))
-  by_call (crash kind id) h = acts tt (crashes kind id (party_of kind) (party (party_of kind) id h.argument))
+  by_call (crash kind id) h = acts tt (crashed kind id (party_of kind) h.argument)
   by_call report h = acts tt (empties report [] 0 tt refl)
 
 pub accepted_by : (c : Call) (M : Machine) → code_of c M ≡ 0 → Accepted M c (effect_of c M)

@@ -9,8 +9,8 @@ use lib.Arith.{lt-one}
 use lib.Dec.{eqb, eqb→eq}
 use lib.Pow.{pow_pos}
 use Rattle.sets.specs.declared.Tag.{Tag}
-use Rattle.sets.specs.declared.Order.{Order}
-use Rattle.sets.specs.declared.Order.TheVariants.{Lower, Same, Greater}
+use Rattle.std.specs.declared.cmp.Ordering.{Ordering}
+use Rattle.std.specs.declared.cmp.Ordering.TheVariants.{Less, Equal, Greater}
 use Rattle.sets.specs.Sets.{join, with}
 use Rattle.sets.specs.Tags.{first, against}
 use Rattle.sets.proofs.Laws.{join_lt, with_lt}
@@ -19,7 +19,7 @@ use Rattle.tables.specs.declared.Conf.{Conf}
 use Rattle.tables.specs.declared.Client.{Client}
 use Rattle.tables.specs.declared.Message.{Message}
 use Rattle.tables.specs.declared.Party.TheVariants.{AClient}
-use Rattle.tables.specs.Kinds.{sender_of, receiver_of, many_of}
+use Rattle.tables.specs.Kinds.{sender_of, receiver_of, many_named}
 use Rattle.tables.specs.Phases.{asks_directories, asks_replicas, uses_replica_set, uses_tag, uses_page, rounds_left}
 use Rattle.tables.specs.Tables.{Page, no_page}
 use Rattle.tables.proofs.Whole.{Paged}
@@ -169,7 +169,7 @@ module _ (k : Conf) (w : Client) (f : ClientFacts k w) where
       }
 
 -- the parties that answer are those that the phase asks
-sender_asked : (k : Conf) (p : ℕ) → 1 ≤ p → p ≤ 6 → (p ≡ 3 → ⊥) → many_of k (sender_of (awaited p)) ≡ asked k p
+sender_asked : (k : Conf) (p : ℕ) → 1 ≤ p → p ≤ 6 → (p ≡ 3 → ⊥) → many_named k (sender_of (awaited p)) ≡ asked k p
 unfolding sender_of awaited
 sender_asked k zero l h n = absurd (omega arith)
 sender_asked k (suc zero) l h n = refl
@@ -192,7 +192,7 @@ module _ {k : Conf} {p : ℕ} {w : Client} (b : Busy k p w) where
           numbered = b.numbered;
           rounds = b.rounds;
           answered = with_lt (asked k p) w.answered x.sender b.answered
-              (rw (sender_asked k p b.some b.high n) at (subst (λ (z : ℕ). x.sender ≤ many_of k (sender_of z)) e g.sender));
+              (rw (sender_asked k p b.some b.high n) at (subst (λ (z : ℕ). x.sender ≤ many_named k (sender_of z)) e g.sender));
           set = h;
           tag = f;
           spare = b.spare;
@@ -209,15 +209,15 @@ module _ {k : Conf} {p : ℕ} {w : Client} (b : Busy k p w) where
         told : p ≡ 1 → x.set < 2 ^ chosen_from k p
         told q = subst (λ (z : ℕ). x.set < 2 ^ chosen_from k z) (sym q) g.set
 
-        gathers : p ≡ 1 → (o : Order) → Busy k p (gathered w (with w.answered x.sender) x.tag x.set o)
+        gathers : p ≡ 1 → (o : Ordering) → Busy k p (gathered w (with w.answered x.sender) x.tag x.set o)
         gathers q Greater = hearing_busy x.set x.tag (told q) g.tag
-        gathers q Same = hearing_busy (join w.replicas x.set) w.tag (join_lt (chosen_from k p) w.replicas x.set b.set (told q)) b.tag
-        gathers q Lower = hearing_busy w.replicas w.tag b.set b.tag
+        gathers q Equal = hearing_busy (join w.replicas x.set) w.tag (join_lt (chosen_from k p) w.replicas x.set b.set (told q)) b.tag
+        gathers q Less = hearing_busy w.replicas w.tag b.set b.tag
 
-        raises : (o : Order) → Busy k p (raised w (with w.answered x.sender) x.tag o)
+        raises : (o : Ordering) → Busy k p (raised w (with w.answered x.sender) x.tag o)
         raises Greater = hearing_busy w.replicas x.tag b.set g.tag
-        raises Same = hearing_busy w.replicas w.tag b.set b.tag
-        raises Lower = hearing_busy w.replicas w.tag b.set b.tag
+        raises Equal = hearing_busy w.replicas w.tag b.set b.tag
+        raises Less = hearing_busy w.replicas w.tag b.set b.tag
 
   -- a change of phase
   pub moved_busy : (t : Tag) → TagFacts k t → rounds_left (p + 1) + 1 ≤ rounds_left p → (if eqb p 5 then w.answered else w.replicas) < 2 ^ chosen_from k (p + 1)

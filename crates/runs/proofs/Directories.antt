@@ -8,7 +8,7 @@ use Rattle.sets.proofs.Laws.{join_lt, with_lt}
 use Rattle.tables.specs.declared.Conf.{Conf}
 use Rattle.tables.specs.declared.Directory.{Directory}
 use Rattle.tables.specs.declared.Message.{Message}
-use Rattle.tables.specs.Kinds.{sender_of, receiver_of, many_of}
+use Rattle.tables.specs.Kinds.{sender_of, receiver_of, many_named}
 use Rattle.tables.specs.Tables.{no_page}
 use Rattle.inspect.specs.Good.{zeros, good_tag, good_set, directory_row}
 use Rattle.inspect.proofs.Facts.{DirectoryFacts, MessageFacts}
@@ -35,7 +35,7 @@ module _ (k : Conf) (d : Directory) (x : Message) (f : DirectoryFacts k d) (g : 
             down = f.down;
             tag = f.tag;
             set = with_lt k.replicas d.set x.sender f.set
-                (subst (λ (n : ℕ). x.sender ≤ many_of k (sender_of n)) (eqb→eq x.kind 14 e) g.sender);
+                (subst (λ (n : ℕ). x.sender ≤ many_named k (sender_of n)) (eqb→eq x.kind 14 e) g.sender);
           }
       go (stays _) = f
 

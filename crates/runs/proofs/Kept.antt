@@ -1,4 +1,5 @@
 -- Set-up makes a sound machine, and every call keeps it so, whatever its numbers.
+use Rattle.std.specs.Prelude.{Option, Some}
 use mathlib.Core.Bool.{true, false, not, false≢true}
 use mathlib.Core.Path.{◌≡◌, refl, sym, subst}
 use Prim.Native.Nat.{ℕ, ◌≤◌}
@@ -10,8 +11,8 @@ use Rattle.sets.proofs.Tests.{T_false, not_not}
 use Rattle.tables.specs.declared.Client.{Client}
 use Rattle.tables.specs.declared.Message.{Message}
 use Rattle.tables.specs.declared.Party.{Party}
-use Rattle.tables.specs.declared.Party.TheVariants.{Nobody, AClient, ADirectory, AReplica}
-use Rattle.tables.specs.Kinds.{many_of}
+use Rattle.tables.specs.declared.Party.TheVariants.{AClient, ADirectory, AReplica}
+use Rattle.tables.specs.Kinds.{many_of, many_named}
 use Rattle.tables.specs.Phases.{rounds_left, uses_page}
 use Rattle.tables.specs.Tables.{Page, Machine, no_page, client_at, directory_at, replica_at, slot_at, is_empty}
 use Rattle.tables.proofs.All.{length_with_row}
@@ -50,7 +51,7 @@ arrives {M} z {who} {s} k =
     record {
       full = k.full;
       facts = f;
-      receiver = record { low = f.some_receiver; high = subst (λ (p : Party). (slot_at M s).receiver ≤ many_of M.conf p) k.whose f.receiver };
+      receiver = record { low = f.some_receiver; high = subst (λ (p : Option Party). (slot_at M s).receiver ≤ many_named M.conf p) k.whose f.receiver };
     }
 
 -- ---- the effects keep a sound machine sound
@@ -73,8 +74,7 @@ module _ {M : Machine} (z : Sound M) where
   unfolding good_client
   down_client_lem w g = rw (le-leb w.down 1 (client_facts M.conf w g).down) at g
 
-  downed_fits : (who : Party) (p : ℕ) → Among (many_of M.conf who) p → Fits M.conf (downed M who p)
-  downed_fits Nobody p i = tt
+  downed_fits : (who : Party) (p : ℕ) → Among (many_of M.conf who) p → Fits M.conf (downed M (Some who) p)
   downed_fits AClient p i =
       client_fits M.conf p _ i.high (client_facts M.conf _ (down_client_lem (client_at M p) (client_of_lem z p i.low i.high))) (client_paged z.whole p)
   downed_fits ADirectory p i =

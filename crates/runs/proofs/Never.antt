@@ -1,4 +1,5 @@
 -- THE FAULT OF OLD: from one accepted set-up to the next message numbers of clients and tags of directories never fall, and no number exceeds top, whatever the calls.
+use Rattle.std.specs.Prelude.{Some}
 use mathlib.Core.Bool.{true, false}
 use mathlib.Core.List.{List, [], ◌∷◌, ◌++◌}
 use mathlib.Core.Logic.{⊎_elim}
@@ -17,7 +18,7 @@ use Rattle.tables.specs.declared.Directory.{Directory}
 use Rattle.tables.specs.declared.Entry.{Entry}
 use Rattle.tables.specs.declared.Message.{Message}
 use Rattle.tables.specs.declared.Party.{Party}
-use Rattle.tables.specs.declared.Party.TheVariants.{Nobody, AClient, ADirectory, AReplica}
+use Rattle.tables.specs.declared.Party.TheVariants.{AClient, ADirectory, AReplica}
 use Rattle.tables.specs.Tables.{Page, Machine, no_client, no_directory, no_entry, client_at, directory_at, slot_at, with_slots, is_free, is_empty}
 use Rattle.tables.specs.Words.{entry_words}
 use Rattle.tables.specs.Machines.{machine_of}
@@ -99,8 +100,7 @@ client_higher w x (ReadEnded t n) = omega arith
 client_higher w x (WriteEnded t) = omega arith
 client_higher w x Spent = omega arith
 
-downed_higher : (M : Machine) (who : Party) (p : ℕ) → Higher M (downed M who p)
-downed_higher M Nobody p = tt
+downed_higher : (M : Machine) (who : Party) (p : ℕ) → Higher M (downed M (Some who) p)
 downed_higher M AClient p = omega arith
 downed_higher M ADirectory p = ≼_refl _
 downed_higher M AReplica p = tt

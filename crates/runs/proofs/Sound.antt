@@ -9,7 +9,7 @@ use lib.ListN.{length}
 use Rattle.sets.specs.Inner.{◌∈◌}
 use Rattle.tables.specs.declared.Conf.{Conf}
 use Rattle.tables.specs.declared.Message.{Message}
-use Rattle.tables.specs.Kinds.{sender_of, many_of}
+use Rattle.tables.specs.Kinds.{sender_of, many_named}
 use Rattle.tables.specs.Tables.{Machine, no_page, no_message, with_slots, is_empty}
 use Rattle.tables.specs.Words.{message_words}
 use Rattle.tables.proofs.All.{All, none, cons, all_map, length_with_row}
@@ -93,7 +93,7 @@ unfolding sender_of
 some_kind k x g =
     ne_eqb x.kind 0
     (λ e. let f = message_facts k x g in
-    let l : x.sender ≤ 0 = subst (λ (n : ℕ). x.sender ≤ many_of k (sender_of n)) e f.sender in
+    let l : x.sender ≤ 0 = subst (λ (n : ℕ). x.sender ≤ many_named k (sender_of n)) e f.sender in
     omega (arith, f.some_sender))
 
 stands_good : (k : Conf) (x : Message) → good_message k x ≡ true → Paged x.page → Stands k x

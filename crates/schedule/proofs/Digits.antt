@@ -1,31 +1,25 @@
 -- Decimal digits one at a time, and texts that are put one after the other.
-use Prim.Native.Nat.{ℕ, zero, suc, ◌+◌, ◌*◌, ◌-◌, ◌/◌, ◌%◌, ◌^◌, ◌≤◌, ◌<◌}
-use mathlib.Core.Path.{◌≡◌, refl, sym, ◌∙◌}
-use mathlib.Core.List.{List, [], ◌∷◌, ◌++◌, append_assoc, append-nil}
-use native.Mathlib.Omega.{arith}
-use native.Mathlib.Nat.{pow-suc}
-use native.Mathlib.Numerals.{add-one}
-use lib.ListN.{length, get_or, take, set}
-use lib.Seq.{take-suc-set, take_all}
-use borrow.Author.Tests.{lt-ltb, le-ltb}
+use Rattle.std.proofs.Common.{pow-suc, ℕ, zero, suc, ◌+◌, ◌*◌, ◌-◌, ◌/◌, ◌%◌, ◌^◌, ◌≤◌, ◌<◌, ◌≡◌, sym, ◌∙◌, List, [], ◌∷◌, ◌++◌, append_assoc, append-nil, arith, add-one, length, get_or, take, set, take-suc-set, take_all, lt-ltb, le-ltb}
 use Rattle.schedule.specs.Text.{decimal_in, decimal, fields_text, word_shown, answer_text}
 use Rattle.schedule.specs.Inner.{Printed}
 
-pub one_digit : (room n : ℕ) → (room ≡ 0 → ⊥) → n < 10 → decimal_in room n ≡ (48 + n) ∷ []
+pub one_digit : (room n : ℕ) → 0 < room → n < 10 → decimal_in room n ≡ (48 + n) ∷ []
 unfolding decimal_in
-one_digit zero n e h = absurd (e refl)
+one_digit zero n e h = absurd (omega arith)
 one_digit (suc r) n e h = simp (lt-ltb n 10 h)
 
-pub more_digits : (room n : ℕ) → (room ≡ 0 → ⊥) → 10 ≤ n
+pub more_digits : (room n : ℕ) → 0 < room → 10 ≤ n
     → decimal_in room n ≡ decimal_in (room - 1) (n / 10) ++ ((48 + n % 10) ∷ [])
 unfolding decimal_in
-more_digits zero n e h = absurd (e refl)
+more_digits zero n e h = absurd (omega arith)
 more_digits (suc r) n e h = let z : suc r - 1 ≡ r = omega arith in rw z (simp (le-ltb n 10 h))
 
-pub less_room : (room n : ℕ) → (room ≡ 0 → ⊥) → n < 10 ^ room → n / 10 < 10 ^ (room - 1)
-less_room zero n e h = absurd (e refl)
-less_room (suc r) n e h =
-    let z : suc r - 1 ≡ r = omega arith in rw z (let k : n < 10 ^ r * 10 = rw (pow-suc 10 r) at h in omega arith)
+pub less_room : (room n : ℕ) → 10 ≤ n → n < 10 ^ room → (0 < room - 1) × (n / 10 < 10 ^ (room - 1))
+less_room zero n e h = absurd (omega arith)
+less_room (suc zero) n e h = absurd (omega arith)
+less_room (suc (suc r)) n e h =
+    let z : suc (suc r) - 1 ≡ suc r = omega arith in
+    rw z (omega arith, let k : n < 10 ^ suc r * 10 = rw (pow-suc 10 (suc r)) at h in omega arith)
 
 pub put_one : (out : List ℕ) (at b : ℕ) → at < length out → Printed 1 out at (b ∷ []) (set out at b) (at + 1)
 put_one out at b h = record { low = omega arith; high = omega arith; text = rw (add-one, take-suc-set out at b h) }
@@ -49,11 +43,7 @@ spaced n old mid new x y z p q = then 1 20 old mid new x y z (32 ∷ []) (decima
 
 -- the digits of n
 module _ (room : ℕ) (out : List ℕ) (at n : ℕ) where
-  pub no_digits : room ≡ 0 → Printed room out at (decimal_in room n) out at
-  unfolding decimal_in
-  no_digits e = rw e (put_none 0 out at)
-
-  module _ (some : room ≡ 0 → ⊥) where
+  module _ (some : 0 < room) where
     pub a_digit : n < 10 → (new : List ℕ) (r : ℕ) → Printed 1 out at ((48 + n) ∷ []) new r → Printed room out at (decimal_in room n) new r
     a_digit h new r p = record { low = p.low; high = omega arith; text = p.text ∙ rw (one_digit room n some h) }
 

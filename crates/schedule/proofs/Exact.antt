@@ -1,18 +1,11 @@
 -- A line is a command exactly where it is that command's text, of at most 80 bytes and with numbers that may be fields.
-use Rattle.std.specs.Prelude.{if◌then◌else◌}
-use Prim.Native.Nat.{ℕ, ◌≤◌}
-use mathlib.Core.Path.{◌≡◌, refl, sym, ap, ◌∙◌}
-use mathlib.Core.List.{List, [], ◌∷◌}
-use mathlib.Core.Logic.{◌⊎◌, inl, inr, ⊎_elim}
-use native.Mathlib.Omega.{arith}
-use lib.ListN.{length}
-use lib.Dec.{ltb, eqb}
-use borrow.Author.Tests.{le-ltb, ltb-false, eqb-true}
+use Rattle.std.proofs.Common.{if◌then◌else◌, ℕ, ◌≤◌, ◌≡◌, refl, sym, ap, ◌∙◌, List, [], ◌∷◌, ◌⊎◌, inl, inr, ⊎_elim, arith, length, ltb, eqb, le-ltb, ltb-false, eqb-true}
 use Rattle.sets.proofs.Tests.{T_true, T_false, if_ind}
 use Rattle.schedule.specs.declared.Command.{Command}
 use Rattle.schedule.specs.declared.Command.TheVariants.{SetUp, Columns, Read, Write, Deliver, Gossip, Tidy, Crash, Malformed}
 use Rattle.schedule.specs.Text.{fields_in, letter_of, text}
-use Rattle.schedule.specs.Lines.{IsText, Numbers, none, some, after, numbers_of, pick, pick_all, said_by, command_of}
+use Rattle.std.specs.Prelude.{None, Some}
+use Rattle.schedule.specs.Lines.{IsText, Numbers, after, numbers_of, pick, pick_all, said_by, command_of}
 use Rattle.schedule.proofs.Scan.{too_many}
 use Rattle.schedule.proofs.Spelled.{read_is_spelled, fields_read}
 
@@ -27,7 +20,7 @@ named : (b k : ℕ) (ns : List ℕ) (x y : Command) → k ≡ letter_of x → ns
 named b k ns x y p q h = if_ind (Names b ns) (eqb b k) (λ t f. (eqb-true b k (T_true _ t) ∙ p, q)) (λ t. h)
 
 picked : (b : ℕ) (ns : List ℕ) → Names b ns (pick b (length ns) ns)
-unfolding pick pick_all
+unfolding pick_all
 picked b [] = no_name b _
 picked b (a ∷ []) =
     named b 82 _ (Read a) _ refl refl (named b 68 _ (Deliver a) _ refl refl (named b 84 _ (Tidy a) _ refl refl (no_name b _)))
@@ -40,10 +33,9 @@ picked b (a ∷ c ∷ d ∷ e ∷ f ∷ g ∷ []) = no_name b _
 picked b (a ∷ c ∷ d ∷ e ∷ f ∷ g ∷ h ∷ []) = named b 67 _ (Columns a c d e f g h) _ refl refl (no_name b _)
 picked b (a ∷ c ∷ d ∷ e ∷ f ∷ g ∷ h ∷ i ∷ []) = named b 83 _ (SetUp a c d e f g h i) _ refl refl (no_name b _)
 picked b (a ∷ c ∷ d ∷ e ∷ f ∷ g ∷ h ∷ i ∷ j ∷ l) =
-    λ k. absurd (k (sym (too_many b (some (a ∷ c ∷ d ∷ e ∷ f ∷ g ∷ h ∷ i ∷ j ∷ l)) (omega arith))))
+    λ k. absurd (k (sym (too_many b (a ∷ c ∷ d ∷ e ∷ f ∷ g ∷ h ∷ i ∷ []) j (Some l) (omega arith))))
 
 pick_back : (c : Command) → pick (letter_of c) (length (fields_in c)) (fields_in c) ≡ c
-unfolding pick
 pick_back (SetUp a b c d e f g w) = refl
 pick_back (Columns a b c d e f w) = refl
 pick_back (Read a) = refl
@@ -62,8 +54,8 @@ command_is_text l c e f =
     (λ t q. by l (ltb-false 80 _ (T_false _ t)) q) e
   where
     numbers : (b : ℕ) (k : List ℕ) → length (b ∷ k) ≤ 80 → (o : Numbers) → numbers_of k after ≡ o → pick_all b o ≡ c → IsText c (b ∷ k)
-    numbers b k h none q d = absurd (f (sym d))
-    numbers b k h (some ns) q d =
+    numbers b k h None q d = absurd (f (sym d))
+    numbers b k h (Some ns) q d =
         let s = read_is_spelled k after ns tt q in
         let n = picked b ns (λ z. f (sym d ∙ z)) in
         let x : b ≡ letter_of c = n.0 ∙ ap letter_of d in
@@ -83,14 +75,14 @@ text_is_command l c t =
 
 -- every other line is malformed
 malformed? : (c : Command) → (c ≡ Malformed) ⊎ (c ≡ Malformed → ⊥)
-malformed? (SetUp a b c d e f g w) = inr (λ e. omega (arith, ap letter_of e))
-malformed? (Columns a b c d e f w) = inr (λ e. omega (arith, ap letter_of e))
-malformed? (Read a) = inr (λ e. omega (arith, ap letter_of e))
-malformed? (Write a w) = inr (λ e. omega (arith, ap letter_of e))
-malformed? (Deliver s) = inr (λ e. omega (arith, ap letter_of e))
-malformed? (Gossip a b) = inr (λ e. omega (arith, ap letter_of e))
-malformed? (Tidy r) = inr (λ e. omega (arith, ap letter_of e))
-malformed? (Crash k i) = inr (λ e. omega (arith, ap letter_of e))
+malformed? (SetUp a b c d e f g w) = inr (λ e. cc)
+malformed? (Columns a b c d e f w) = inr (λ e. cc)
+malformed? (Read a) = inr (λ e. cc)
+malformed? (Write a w) = inr (λ e. cc)
+malformed? (Deliver s) = inr (λ e. cc)
+malformed? (Gossip a b) = inr (λ e. cc)
+malformed? (Tidy r) = inr (λ e. cc)
+malformed? (Crash k i) = inr (λ e. cc)
 malformed? Malformed = inl refl
 
 pub others_malformed : (l : List ℕ) → ((c : Command) → IsText c l → ⊥) → command_of l ≡ Malformed

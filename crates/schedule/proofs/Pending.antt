@@ -1,103 +1,58 @@
 -- The pending line in its buffer, and the bytes of a chunk up to a line end.
-use Prim.Native.Nat.{ℕ, ◌+◌, ◌≤◌, ◌<◌}
-use mathlib.Core.Path.{◌≡◌, refl, sym, ap, ◌∙◌}
-use mathlib.Core.Bool.{true, false, not}
-use mathlib.Core.List.{List, [], ◌∷◌, ◌++◌, append_assoc, append-nil}
-use native.Mathlib.Omega.{arith}
-use native.Mathlib.Numerals.{add-one}
-use lib.ListN.{length, get_or, take, drop, set, length-append}
-use lib.Seq.{take-suc-set, length-take-le}
-use lib.Dec.{eqb}
-use borrow.Author.Tests.{eq-eqb, ne_eqb}
-use Rattle.schedule.specs.declared.Command.{Command}
+use Rattle.std.proofs.Common.{◌≡◌, refl, sym, ◌∙◌, Bool, true, false, cond, List, [], ◌∷◌, ◌++◌, ℕ, zero, suc, ◌+◌, ◌<◌, ◌≤◌, eqb, append_assoc, append-nil, length, get_or, take, drop, arith, Option, Some, None, ltb-true, ltb-false}
+use Rattle.std.specs.List.{position, position_or_len}
+use Rattle.std.proofs.Math.Seq.{take-length, drop-length}
+use Rattle.std.proofs.lemmas.Option.{cond_some}
+use Rattle.std.proofs.lemmas.List.Sums.{fails_before_first, passes_at_first}
 use Rattle.schedule.specs.declared.Command.TheVariants.{Malformed}
+use Rattle.schedule.specs.declared.Line.{Line}
 use Rattle.schedule.specs.Lines.{command_of}
-use Rattle.schedule.specs.Input.{Held, FedOn, commands_from, unfinished, malformed_if}
+use Rattle.schedule.specs.Input.{Held, FedOn, commands_from}
 use Rattle.schedule.proofs.Scan.{cons_at, overlong}
 
--- at the start, and after each line
-pub held_none : (buffer : List ℕ) → Held [] buffer 0
-held_none buffer = record { size = omega arith; bytes = λ h. refl }
+pub is_overlong : (p : List ℕ) (line : Line) → Held p line → 80 < line.len → Malformed ≡ command_of p
+is_overlong p line held h = overlong p (omega (arith, held.size))
 
-pub many_kept : (buffer : List ℕ) (len : ℕ) → length buffer ≡ 80 → len ≤ 80 → len ≡ length (take len buffer)
-many_kept buffer len e h = sym (length-take-le len buffer (omega arith))
+-- bytes among which no line end is
+no_end : (i : ℕ) (l p later : List ℕ) → i ≤ length l → ((k : ℕ) → k < i → eqb (get_or l k 0) 10 ≡ false)
+    → commands_from p (l ++ later) ≡ commands_from (p ++ take i l) (drop i l ++ later)
+unfolding commands_from
+no_end zero l p later h n = rw append-nil refl
+no_end (suc i) [] p later h n = absurd (omega arith)
+no_end (suc i) (b ∷ l) p later h n =
+    simp (n 0 (omega arith))
+    (no_end i l (p ++ (b ∷ [])) later (omega arith) (λ k m. n (suc k) (omega arith)) ∙ rw (append_assoc p (b ∷ []) (take i l)))
 
-module _ (p buffer : List ℕ) (len : ℕ) (g : Held p buffer len) where
-  pub held_more : (b : ℕ) → length buffer ≡ 80 → len < 80 → Held (p ++ (b ∷ [])) (set buffer len b) (len + 1)
-  held_more b n h =
+no_first : (b : Bool) (x : ℕ) → cond b (Some x) None ≡ None → b ≡ false
+no_first true x e = cc
+no_first false x e = refl
+
+module _ (old : Line) (chunk : List ℕ) (new : Line) (r : Option ℕ) (first : r ≡ position (λ b. eqb b 10) chunk) where
+  abbrev place : ℕ
+  place = position_or_len (λ b. eqb b 10) chunk
+
+  pub fed_all : r ≡ None → ((p : List ℕ) → Held p old → Held (p ++ chunk) new) → FedOn old chunk new None
+  fed_all e held =
+      let all : length chunk ≤ place = ltb-false place (length chunk) (no_first _ place (sym first ∙ e)) in
       record {
-        size = simp length-append (omega (arith, g.size));
-        bytes = λ k.
-            rw (add-one, take-suc-set buffer len b (omega arith))
-            (ap (λ (l : List ℕ). l ++ (b ∷ [])) (g.bytes (omega (arith, g.size))));
+        next = tt;
+        added = chunk;
+        held = held;
+        same = λ p later.
+            no_end (length chunk) chunk p later (omega arith) (λ k m. fails_before_first (λ b. eqb b 10) chunk k 0 (omega arith))
+            ∙ rw (take-length chunk, drop-length chunk) refl;
       }
 
-  pub held_full : (b : ℕ) → 80 ≤ len → Held (p ++ (b ∷ [])) buffer 81
-  held_full b h =
+  pub fed_line : (end : ℕ) → r ≡ Some end → ((p : List ℕ) → Held p old → Held (p ++ take end chunk) new) → FedOn old chunk new (Some (end + 1))
+  unfolding commands_from
+  fed_line end e held =
+      let (inside, here) = cond_some _ place end (sym first ∙ e) in
+      let within : end < length chunk = rw here at (ltb-true place (length chunk) inside) in
       record {
-        size = simp length-append (omega (arith, g.size));
-        bytes = λ k. absurd (let z : length p + 1 ≤ 80 = simp length-append at k in omega (arith, g.size));
+        next = (omega arith, omega arith);
+        added = take end chunk;
+        held = held;
+        same = λ p later.
+            no_end end chunk p later (omega arith) (λ k m. fails_before_first (λ b. eqb b 10) chunk k 0 (omega arith))
+            ∙ rw (cons_at chunk end within) (simp (rw here at (passes_at_first (λ b. eqb b 10) chunk 0 (omega arith))));
       }
-
-  pub is_overlong : 80 < len → Malformed ≡ command_of p
-  is_overlong h = overlong p (omega (arith, g.size))
-
-  pub is_line : (r : Command) → len ≤ 80 → r ≡ command_of (take len buffer) → r ≡ command_of p
-  is_line r h e = e ∙ ap command_of (g.bytes (omega (arith, g.size)))
-
-pub left_over : (p buffer : List ℕ) (len : ℕ) → Held p buffer len → malformed_if (not (eqb len 0)) ≡ unfinished p
-left_over [] buffer len g = let z : len ≡ 0 = g.size in rw z
-left_over (b ∷ p) buffer len g = simp (ne_eqb len 0 (λ z. omega (arith, g.size)))
-
--- a chunk of which the bytes from a place up to another are added, and no line end was among them
-pub record Feeding (old : List ℕ) (len : ℕ) (chunk : List ℕ) (from : ℕ) (new : List ℕ) (k at : ℕ) : Type 0 where
-  pub low : from ≤ at
-  pub high : at ≤ length chunk
-  pub added : List ℕ
-  pub held : (p : List ℕ) → Held p old len → Held (p ++ added) new k
-  pub same : (p later : List ℕ) → commands_from p (drop from chunk ++ later) ≡ commands_from (p ++ added) (drop at chunk ++ later)
-
-module _ (old : List ℕ) (len : ℕ) (chunk : List ℕ) (from : ℕ) where
-  pub fed_none : from ≤ length chunk → Feeding old len chunk from old len from
-  fed_none h =
-      record { low = omega arith; high = h; added = []; held = λ p g. rw (append-nil p) g; same = λ p later. rw (append-nil p) }
-
-  module _ (new : List ℕ) (k at : ℕ) (w : Feeding old len chunk from new k at) where
-    pub fed_all : length chunk ≤ at → FedOn old len chunk from new (record { len = k; at = at; ended = false })
-    fed_all h =
-        record {
-          low = w.low;
-          high = w.high;
-          further = λ e. absurd (let z : ◌≡◌ {A = ℕ} 0 1 = cc in omega arith);
-          all = λ e. omega (arith, w.high);
-          added = w.added;
-          held = w.held;
-          same = w.same;
-        }
-
-    module _ (h : at < length chunk) where
-      pub fed_more : (buffer : List ℕ) (r : ℕ) → (get_or chunk at 0 ≡ 10 → ⊥)
-          → ((p : List ℕ) → Held p new k → Held (p ++ (get_or chunk at 0 ∷ [])) buffer r) → Feeding old len chunk from buffer r (at + 1)
-      unfolding commands_from
-      fed_more buffer r n step =
-          let b = get_or chunk at 0 in
-          record {
-            low = omega (arith, w.low);
-            high = omega arith;
-            added = w.added ++ (b ∷ []);
-            held = λ p g. rw (← append_assoc p w.added (b ∷ [])) (step (p ++ w.added) (w.held p g));
-            same = λ p later. w.same p later ∙ rw (cons_at chunk at h) (simp (ne_eqb b 10 n, append_assoc));
-          }
-
-      pub fed_line : get_or chunk at 0 ≡ 10 → FedOn old len chunk from new (record { len = k; at = at + 1; ended = true })
-      unfolding commands_from
-      fed_line e =
-          record {
-            low = omega (arith, w.low);
-            high = omega arith;
-            further = λ z. omega (arith, w.low);
-            all = λ q. absurd (let z : ◌≡◌ {A = ℕ} 0 1 = cc in omega arith);
-            added = w.added;
-            held = w.held;
-            same = λ p later. w.same p later ∙ rw (cons_at chunk at h) (simp (eq-eqb _ _ e));
-          }

@@ -1,17 +1,10 @@
 -- Bytes are read as numbers exactly where they are those numbers, each after one space.
-use Rattle.std.specs.Prelude.{if◌then◌else◌}
-use Prim.Native.Nat.{ℕ, zero, suc, ◌+◌, ◌*◌, ◌-◌, ◌/◌, ◌%◌, ◌^◌, ◌≤◌, ◌<◌}
-use mathlib.Core.Path.{◌≡◌, refl, sym, ap, ◌∙◌}
-use mathlib.Core.Bool.{Bool, true, false}
-use mathlib.Core.List.{List, [], ◌∷◌, ◌++◌, append_assoc}
-use mathlib.Core.Logic.{◌⊎◌, inl, inr, ⊎_elim}
-use native.Mathlib.Omega.{arith}
-use native.Mathlib.Nat.{pow-suc}
-use lib.Dec.{ltb, leb, eqb}
-use borrow.Author.Tests.{le-leb, ne_eqb, ltb-true, ltb-false, leb-true, eqb-true, eqb-false}
+use Rattle.std.proofs.Common.{pow-suc, if◌then◌else◌, ℕ, zero, suc, ◌+◌, ◌*◌, ◌-◌, ◌/◌, ◌%◌, ◌^◌, ◌≤◌, ◌<◌, ◌≡◌, refl, sym, ap, ◌∙◌, Bool, true, false, List, [], ◌∷◌, ◌++◌, append_assoc, ◌⊎◌, inl, inr, ⊎_elim, arith, ltb, leb, eqb, le-leb, ne_eqb, ltb-true, ltb-false, leb-true, eqb-true}
+use borrow.Author.Tests.{eqb-false}
 use Rattle.sets.proofs.Tests.{T_true, true-T, and_elim}
 use Rattle.schedule.specs.Text.{decimal_in, decimal, fields_text, Fields}
-use Rattle.schedule.specs.Lines.{Numbers, none, some, push, Place, after, start, inside, digit, numbers_of}
+use Rattle.std.specs.Prelude.{None, Some}
+use Rattle.schedule.specs.Lines.{Numbers, push, Place, after, start, inside, digit, numbers_of}
 use Rattle.schedule.proofs.Digits.{one_digit, more_digits}
 use Rattle.schedule.proofs.Scan.{is_digit}
 
@@ -23,15 +16,15 @@ more_room (suc r) n e h = go (ltb n 10) refl (λ f g. more_room r (n / 10) f g)
     go : (t : Bool) → ltb n 10 ≡ t → ((r ≡ 0 → ⊥) → n / 10 < 10 ^ r → decimal_in (suc r) (n / 10) ≡ decimal_in r (n / 10))
         → decimal_in (suc (suc r)) n ≡ decimal_in (suc r) n
     go true q ih =
-        one_digit (suc (suc r)) n (λ z. omega arith) (ltb-true n 10 q) ∙ sym (one_digit (suc r) n (λ z. omega arith) (ltb-true n 10 q))
+        one_digit (suc (suc r)) n (omega arith) (ltb-true n 10 q) ∙ sym (one_digit (suc r) n (omega arith) (ltb-true n 10 q))
     go false q ih =
         let big = ltb-false n 10 q in
         let a : suc (suc r) - 1 ≡ suc r = omega arith in
         let b : suc r - 1 ≡ r = omega arith in
         let k : n < 10 ^ r * 10 = rw (pow-suc 10 r) at h in
         let f : r ≡ 0 → ⊥ = λ z. (let j : n < 10 ^ 0 * 10 = rw z at k in omega arith) in
-        more_digits (suc (suc r)) n (λ z. omega arith) big
-        ∙ rw (a, ih f (omega arith)) (sym (more_digits (suc r) n (λ z. omega arith) big ∙ rw b))
+        more_digits (suc (suc r)) n (omega arith) big
+        ∙ rw (a, ih f (omega arith)) (sym (more_digits (suc r) n (omega arith) big ∙ rw b))
 
 -- one digit more at the end
 decimal_more : (n d : ℕ) → 0 < n → d < 10 → n * 10 + d ≤ 4294967295 → decimal (n * 10 + d) ≡ decimal n ++ ((48 + d) ∷ [])
@@ -39,7 +32,7 @@ unfolding decimal
 decimal_more n d pos low top =
     let p : (n * 10 + d) / 10 ≡ n = omega arith in
     let q : (n * 10 + d) % 10 ≡ d = omega arith in
-    more_digits 20 (n * 10 + d) (λ z. omega arith) (omega arith)
+    more_digits 20 (n * 10 + d) (omega arith) (omega arith)
     ∙ rw (p, q) (ap (λ (l : List ℕ). l ++ ((48 + d) ∷ [])) (sym (more_room 19 n (λ z. omega arith) (omega arith))))
 
 -- a byte that is a digit
@@ -55,7 +48,7 @@ module _ (b : ℕ) (e : digit b ≡ true) where
   single : decimal (b - 48) ≡ b ∷ []
   unfolding decimal
   single =
-      let w = digit_range in one_digit 20 (b - 48) (λ z. omega arith) (omega arith) ∙ ap (λ (n : ℕ). n ∷ []) back
+      let w = digit_range in one_digit 20 (b - 48) (omega arith) (omega arith) ∙ ap (λ (n : ℕ). n ∷ []) back
 
   grown : (n : ℕ) (l : List ℕ) → 0 < n → n * 10 + (b - 48) ≤ 4294967295 → decimal (n * 10 + (b - 48)) ++ l ≡ decimal n ++ (b ∷ l)
   grown n l pos top =
@@ -80,22 +73,22 @@ unfolding fields_text
 spell n l ms ns h s e = rw e (record { text = ap (λ (k : List ℕ). (32 ∷ decimal n) ++ k) s.text; fields = (h, s.fields) })
 
 -- what a reading that succeeds says of its parts
-never : {A : Type 0} {ns : List ℕ} → none ≡ some ns → A
-never e = absurd (let z : ◌≡◌ {A = ℕ} 0 1 = cc in omega arith)
+never : {A : Type 0} {ns : List ℕ} → None ≡ Some ns → A
+never e = cc
 
-on_if : (t : Bool) (x y : Numbers) {ns : List ℕ} → (if t then x else y) ≡ some ns
-    → ((t ≡ true) × (x ≡ some ns)) ⊎ ((t ≡ false) × (y ≡ some ns))
+on_if : (t : Bool) (x y : Numbers) {ns : List ℕ} → (if t then x else y) ≡ Some ns
+    → ((t ≡ true) × (x ≡ Some ns)) ⊎ ((t ≡ false) × (y ≡ Some ns))
 on_if true x y e = inl (refl, e)
 on_if false x y e = inr (refl, e)
 
 -- a choice that is none where its test fails
-on_only : (t : Bool) (x : Numbers) {ns : List ℕ} → (if t then x else none) ≡ some ns → (t ≡ true) × (x ≡ some ns)
+on_only : (t : Bool) (x : Numbers) {ns : List ℕ} → (if t then x else None) ≡ Some ns → (t ≡ true) × (x ≡ Some ns)
 on_only true x e = (refl, e)
 on_only false x e = never e
 
-on_push : (n : ℕ) (o : Numbers) {ns : List ℕ} → push n o ≡ some ns → (ms : List ℕ) × ((o ≡ some ms) × (ns ≡ n ∷ ms))
-on_push n none e = never e
-on_push n (some ms) {ns} e = (ms, (refl, let z : ns ≡ n ∷ ms = cc in z))
+on_push : (n : ℕ) (o : Numbers) {ns : List ℕ} → push n o ≡ Some ns → (ms : List ℕ) × ((o ≡ Some ms) × (ns ≡ n ∷ ms))
+on_push n None e = never e
+on_push n (Some ms) {ns} e = (ms, (refl, let z : ns ≡ n ∷ ms = cc in z))
 
 -- the bytes of which a place says that they were read
 abbrev pub passed : Place → List ℕ
@@ -109,7 +102,7 @@ Sound start = Unit {0}
 Sound (inside n) = (0 < n) × (n ≤ 4294967295)
 
 -- what is read is what is written
-pub read_is_spelled : (l : List ℕ) (p : Place) (ns : List ℕ) → Sound p → numbers_of l p ≡ some ns → Spelled (passed p ++ l) ns
+pub read_is_spelled : (l : List ℕ) (p : Place) (ns : List ℕ) → Sound p → numbers_of l p ≡ Some ns → Spelled (passed p ++ l) ns
 unfolding numbers_of decimal decimal_in
 read_is_spelled [] after ns s e = let z : ns ≡ [] = cc in rw z spell_none
 read_is_spelled [] start ns s e = never e
@@ -138,7 +131,7 @@ read_is_spelled (b ∷ l) (inside n) ns s e =
     spelled_as (sym (ap (λ (k : List ℕ). 32 ∷ k) (grown b w.0 n l s.0 t)))
     (read_is_spelled l (inside (n * 10 + (b - 48))) ns (omega (arith, s.0), t) v.1))
     (λ w.
-    let u = on_push n (if eqb b 32 then numbers_of l start else none) w.1 in
+    let u = on_push n (if eqb b 32 then numbers_of l start else None) w.1 in
     let v = on_only (eqb b 32) (numbers_of l start) u.1.0 in
     spelled_as (ap (λ (k : ℕ). 32 ∷ (decimal n ++ (k ∷ l))) (eqb-true b 32 v.0))
     (spell n (32 ∷ l) u.0 ns s.1 (read_is_spelled l start u.0 tt v.1) u.1.1))
@@ -161,7 +154,7 @@ digits_read (suc r) n l pos h top = go (ltb n 10) refl (λ m k a b c. digits_rea
     go true q ih =
         let low = ltb-true n 10 q in
         let s : 48 + n - 48 ≡ n = omega arith in
-        ap (λ (k : List ℕ). numbers_of (k ++ l) start) (one_digit (suc r) n (λ z. omega arith) low)
+        ap (λ (k : List ℕ). numbers_of (k ++ l) start) (one_digit (suc r) n (omega arith) low)
         ∙ simp (ne_eqb (48 + n) 48 (λ z. omega arith), is_digit (48 + n) (omega arith) (omega arith))
         (ap (λ (m : ℕ). numbers_of l (inside m)) s)
     go false q ih =
@@ -170,7 +163,7 @@ digits_read (suc r) n l pos h top = go (ltb n 10) refl (λ m k a b c. digits_rea
         let k : n < 10 ^ r * 10 = rw (pow-suc 10 r) at h in
         let x : n / 10 * 10 + (48 + n % 10 - 48) ≡ n = omega arith in
         ap (λ (z : List ℕ). numbers_of (z ++ l) start)
-        (more_digits (suc r) n (λ z. omega arith) big ∙ ap (λ (i : ℕ). decimal_in i (n / 10) ++ ((48 + n % 10) ∷ [])) b)
+        (more_digits (suc r) n (omega arith) big ∙ ap (λ (i : ℕ). decimal_in i (n / 10) ++ ((48 + n % 10) ∷ [])) b)
         ∙ ap (λ (z : List ℕ). numbers_of z start) (append_assoc (decimal_in r (n / 10)) ((48 + n % 10) ∷ []) l)
         ∙ ih (n / 10) ((48 + n % 10) ∷ l) (omega arith) (omega arith) (omega arith)
         ∙ simp (is_digit (48 + n % 10) (omega arith) (omega arith), x, le-leb n 4294967295 top)
@@ -181,7 +174,7 @@ unfolding numbers_of decimal decimal_in
 number_read zero ns top = refl
 number_read (suc n) ns top = digits_read 20 (suc n) (fields_text ns) (omega arith) (omega arith) top ∙ rest_inside ns (suc n)
 
-pub fields_read : (ns : List ℕ) → Fields ns → numbers_of (fields_text ns) after ≡ some ns
+pub fields_read : (ns : List ℕ) → Fields ns → numbers_of (fields_text ns) after ≡ Some ns
 unfolding numbers_of fields_text
 fields_read [] w = refl
 fields_read (n ∷ ns) w = number_read n ns w.0 ∙ ap (push n) (fields_read ns w.1)

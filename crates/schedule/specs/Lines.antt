@@ -1,6 +1,6 @@
 -- "[..] at most 80 bytes before it. [..] Any other line [..] gets code 18." The command that a line is; a line is the bytes
 -- before its LF, and is read from its first byte to its last.
-use Rattle.std.specs.Prelude.{ℕ, ◌+◌, ◌*◌, ◌-◌, ◌≤◌, ◌≡◌, Bool, ◌&&◌, List, [], ◌∷◌, length, get_or, ltb, leb, eqb, if◌then◌else◌}
+use Rattle.std.specs.Prelude.{ℕ, ◌+◌, ◌*◌, ◌-◌, ◌≤◌, ◌≡◌, Bool, ◌&&◌, List, [], ◌∷◌, length, get_or, ltb, leb, eqb, Option, None, Some, if◌then◌else◌}
 use Rattle.schedule.specs.declared.Command.{Command}
 use Rattle.schedule.specs.declared.Command.TheVariants.{SetUp, Columns, Read, Write, Deliver, Gossip, Tidy, Crash, Malformed}
 use Rattle.schedule.specs.Text.{text, fields_in, Fields}
@@ -13,13 +13,12 @@ pub record IsText (c : Command) (l : List ℕ) : Type 0 where
   pub short : length l ≤ 80
 
 -- numbers that were read, or none where the bytes are no such list
-pub data Numbers : Type 0 where
-  none : Numbers
-  some : List ℕ → Numbers
+abbrev pub Numbers : Type 0
+Numbers = Option (List ℕ)
 
 abbrev pub push : ℕ → Numbers → Numbers
-push n none = none
-push n (some ns) = some (n ∷ ns)
+push n None = None
+push n (Some ns) = Some (n ∷ ns)
 
 -- where in a line one stands: after the letter or a whole number; after a space; in a number that is n so far
 pub data Place : Type 0 where
@@ -32,18 +31,18 @@ digit b = leb 48 b && leb b 57
 
 -- the numbers of the bytes from a place on
 unfoldable pub numbers_of : List ℕ → Place → Numbers
-numbers_of [] after = some []
-numbers_of [] start = none
-numbers_of [] (inside n) = some (n ∷ [])
-numbers_of (b ∷ l) after = if eqb b 32 then numbers_of l start else none
+numbers_of [] after = Some []
+numbers_of [] start = None
+numbers_of [] (inside n) = Some (n ∷ [])
+numbers_of (b ∷ l) after = if eqb b 32 then numbers_of l start else None
 numbers_of (b ∷ l) start =
-    if eqb b 48 then push 0 (numbers_of l after) else if digit b then numbers_of l (inside (b - 48)) else none
+    if eqb b 48 then push 0 (numbers_of l after) else if digit b then numbers_of l (inside (b - 48)) else None
 numbers_of (b ∷ l) (inside n) =
-    if digit b then (if leb (n * 10 + (b - 48)) 4294967295 then numbers_of l (inside (n * 10 + (b - 48))) else none)
-    else push n (if eqb b 32 then numbers_of l start else none)
+    if digit b then (if leb (n * 10 + (b - 48)) 4294967295 then numbers_of l (inside (n * 10 + (b - 48))) else None)
+    else push n (if eqb b 32 then numbers_of l start else None)
 
 -- the command of a letter and n numbers
-unfoldable pub pick : ℕ → ℕ → List ℕ → Command
+abbrev pub pick : ℕ → ℕ → List ℕ → Command
 pick b n v =
     if eqb n 8
     then (if eqb b 83
@@ -62,8 +61,8 @@ pick b n v =
     else Malformed
 
 unfoldable pub pick_all : ℕ → Numbers → Command
-pick_all b none = Malformed
-pick_all b (some v) = pick b (length v) v
+pick_all b None = Malformed
+pick_all b (Some v) = pick b (length v) v
 
 -- the command that a line of any length says
 unfoldable pub said_by : List ℕ → Command

@@ -1,64 +1,71 @@
-// An input that comes in chunks, cut into lines. The pending line is kept in a buffer of 80 bytes; a length of 81 says that
-// it is too long.
-ghost use Rattle.std.specs.Prelude.{◌≡◌, List, [], ◌∷◌, ◌++◌, ℕ, ◌≤◌, length};
+// An input that comes in chunks, cut into lines. Which bytes a line holds (`Held`) is said by who asks, and no field: of a line that is too long it could be many.
+ghost use Rattle.std.specs.Prelude.{◌≡◌, List, [], ◌∷◌, ◌++◌, ℕ, ◌==◌, position};
 ghost use Rattle.schedule.specs.Lines.{command_of};
 ghost use Rattle.schedule.specs.Input.{Held, FedOn, unfinished, malformed_if};
 
-use crate::{Command, Fed, reading};
+use crate::{Command, Line, reading};
 
-// One byte more of the pending line.
-fn keep(line: &mut [u8], len: usize, b: u8) -> usize
-    requires { length line.old ≡ 80 }
-    ensures { (p : List ℕ) → Held p line.old len → Held (p ++ (b ∷ [])) line.new result }
+// The place of the first line end.
+fn line_end(chunk: &[u8]) -> Option<usize>
+    ensures { result ≡ position (λ b. b == 10) chunk.now }
 {
-    if len < 80 {
-        line[len] = b;
-        return len + 1;
-    }
-    81
+    chunk.iter().position(|b| *b == b'\n')
 }
 
-// Reads on from a place of a chunk, up to a line end or the chunk's end.
-pub fn feed(line: &mut [u8], len: usize, chunk: &[u8], from: usize) -> Fed
-    requires line_len { length line.old ≡ 80 }
-    requires from_in_bounds { from ≤ length chunk.now }
-    ensures { FedOn line.old len chunk.now from line.new result }
-{
-    let mut at = from;
-    let mut k = len;
-    while at < chunk.len() {
-        let b = chunk[at];
-        if b == 10 {
-            return Fed {
-                len: k,
-                at: at + 1,
-                ended: true,
-            };
+impl Line {
+    // Before its first byte.
+    pub fn new() -> Line
+        ensures { Held [] result }
+    {
+        Line {
+            bytes: [0; 80],
+            len: 0,
         }
-        k = keep(line, k, b);
-        at += 1;
     }
-    Fed {
-        len: k,
-        at,
-        ended: false,
-    }
-}
 
-// The command that the pending line is, once its line end was met.
-pub fn command(line: &[u8], len: usize) -> Command
-    requires { length line.now ≡ 80 }
-    ensures { (p : List ℕ) → Held p line.now len → result ≡ command_of p }
-{
-    if 80 < len {
-        return Command::Malformed;
+    // The next line begins.
+    pub fn clear(&mut self)
+        ensures { Held [] self.new }
+    {
+        self.len = 0;
     }
-    reading::parse(&line[..len])
-}
 
-// Whether the input ends with an unfinished line, which is malformed whatever it says.
-pub fn is_unfinished(len: usize) -> bool
-    ensures { (p buffer : List ℕ) → Held p buffer len → malformed_if result ≡ unfinished p }
-{
-    len != 0
+    // More bytes of it. Those past the 80th are counted and not kept.
+    fn keep(&mut self, part: &[u8])
+        ensures { (p : List ℕ) → Held p self.old → Held (p ++ part.now) self.new }
+    {
+        let at = self.len.min(80);
+        let end = at + part.len().min(80 - at);
+        self.bytes[at..end].copy_from_slice(&part[..end - at]);
+        self.len = self.len.saturating_add(part.len());
+    }
+
+    // Reads on, up to a line end or the chunk's end: the place after the line end, where there was one.
+    pub fn feed(&mut self, chunk: &[u8]) -> Option<usize>
+        ensures { FedOn self.old chunk.now self.new result }
+    {
+        let Some(end) = line_end(chunk) else {
+            self.keep(chunk);
+            return None;
+        };
+        self.keep(&chunk[..end]);
+        Some(end + 1)
+    }
+
+    // The command that the line is, once its line end was met. A line that is too long has more bytes than there are.
+    pub fn command(&self) -> Command
+        ensures { (p : List ℕ) → Held p self.now → result ≡ command_of p }
+    {
+        match self.bytes.get(..self.len) {
+            Some(line) => reading::parse(line),
+            None => Command::Malformed,
+        }
+    }
+
+    // Whether the input ends with an unfinished line, which is malformed whatever it says.
+    pub fn is_unfinished(&self) -> bool
+        ensures { (p : List ℕ) → Held p self.now → malformed_if result ≡ unfinished p }
+    {
+        self.len != 0
+    }
 }

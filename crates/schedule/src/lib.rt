@@ -19,17 +19,9 @@ pub enum Command {
     Malformed,
 }
 
-// A number and the place after it, where there is one.
+// The pending line: its first bytes, up to 80, and how many it has.
 #[derive(Clone, Copy)]
-pub enum Found {
-    Number(u32, usize),
-    Nothing,
-}
-
-// How far a chunk was read: the pending line's length, the next place, and whether a line end was met there.
-#[derive(Clone, Copy)]
-pub struct Fed {
+pub struct Line {
+    pub bytes: [u8; 80],
     pub len: usize,
-    pub at: usize,
-    pub ended: bool,
 }

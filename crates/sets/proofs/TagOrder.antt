@@ -8,7 +8,7 @@ use native.Mathlib.Decide.{dec_lt}
 use borrow.Author.Tests.{lt-ltb, le-ltb}
 use lib.Dec.{T, eqb, eqb→eq, eqb_refl}
 use Rattle.sets.specs.declared.Tag.{Tag}
-use Rattle.sets.specs.declared.Order.TheVariants.{Lower, Same, Greater}
+use Rattle.std.specs.declared.cmp.Ordering.TheVariants.{Less, Equal, Greater}
 use Rattle.sets.specs.Tags.{tag, first, against, lower, same}
 use Rattle.sets.proofs.Tests.{T-ext, and_elim, and_intro}
 
@@ -48,7 +48,7 @@ first_least a = record { number = omega arith; client = λ e. omega arith }
 
 -- the five ways through the comparison
 module _ (a b : Tag) where
-  pub by_number : a.number < b.number → Lower ≡ against a b
+  pub by_number : a.number < b.number → Less ≡ against a b
   unfolding against
   by_number h = simp (lt-ltb _ _ h)
 
@@ -58,7 +58,7 @@ module _ (a b : Tag) where
     over_number k = simp (le-ltb _ _ h, lt-ltb _ _ k)
 
     module _ (k : a.number ≤ b.number) where
-      pub by_client : a.client < b.client → Lower ≡ against a b
+      pub by_client : a.client < b.client → Less ≡ against a b
       unfolding against
       by_client l = simp (le-ltb _ _ h, le-ltb _ _ k, lt-ltb _ _ l)
 
@@ -67,26 +67,26 @@ module _ (a b : Tag) where
         unfolding against
         over_client m = simp (le-ltb _ _ h, le-ltb _ _ k, le-ltb _ _ l, lt-ltb _ _ m)
 
-        pub no_less : a.client ≤ b.client → Same ≡ against a b
+        pub no_less : a.client ≤ b.client → Equal ≡ against a b
         unfolding against
         no_less m = simp (le-ltb _ _ h, le-ltb _ _ k, le-ltb _ _ l, le-ltb _ _ m)
 
 -- how a stands against b, in the code's word and in the order
 pub data View (a b : Tag) : Type 0 where
-  is_lower_view : against a b ≡ Lower → a ≺ b → View a b
-  is_same : against a b ≡ Same → a ≡ b → View a b
-  is_greater : against a b ≡ Greater → b ≺ a → View a b
+  is_below : against a b ≡ Less → a ≺ b → View a b
+  is_same : against a b ≡ Equal → a ≡ b → View a b
+  is_above : against a b ≡ Greater → b ≺ a → View a b
 
 pub view : (a b : Tag) → View a b
 view a b = go (dec_lt a.number b.number) (dec_lt b.number a.number) (dec_lt a.client b.client) (dec_lt b.client a.client)
   where
     go : Dec (a.number < b.number) → Dec (b.number < a.number) → Dec (a.client < b.client) → Dec (b.client < a.client) → View a b
-    go (yes h) _ _ _ = is_lower_view (sym (by_number a b h)) (record { number = omega arith; client = λ e. omega arith })
-    go (no h) (yes k) _ _ = is_greater (sym (over_number a b (omega arith) k)) (record { number = omega arith; client = λ e. omega arith })
+    go (yes h) _ _ _ = is_below (sym (by_number a b h)) (record { number = omega arith; client = λ e. omega arith })
+    go (no h) (yes k) _ _ = is_above (sym (over_number a b (omega arith) k)) (record { number = omega arith; client = λ e. omega arith })
     go (no h) (no k) (yes l) _ =
-        is_lower_view (sym (by_client a b (omega arith) (omega arith) l)) (record { number = omega arith; client = λ e. l })
+        is_below (sym (by_client a b (omega arith) (omega arith) l)) (record { number = omega arith; client = λ e. l })
     go (no h) (no k) (no l) (yes m) =
-        is_greater (sym (over_client a b (omega arith) (omega arith) (omega arith) m)) (record { number = omega arith; client = λ e. m })
+        is_above (sym (over_client a b (omega arith) (omega arith) (omega arith) m)) (record { number = omega arith; client = λ e. m })
     go (no h) (no k) (no l) (no m) =
         is_same (sym (no_less a b (omega arith) (omega arith) (omega arith) (omega arith))) (ap₂ tag (omega arith) (omega arith))
 
@@ -95,34 +95,34 @@ clash e = omega arith
 
 -- what the code's word says of the order, and back
 module _ (a b : Tag) where
-  pub Lower→≺ : against a b ≡ Lower → a ≺ b
-  Lower→≺ e = elim (view a b) [ is_lower_view _ h ↦ h | is_same f _ ↦ absurd (clash (cc)) | is_greater f _ ↦ absurd (clash (cc)) ]
+  pub Less→≺ : against a b ≡ Less → a ≺ b
+  Less→≺ e = elim (view a b) [ is_below _ h ↦ h | is_same f _ ↦ absurd (clash (cc)) | is_above f _ ↦ absurd (clash (cc)) ]
 
-  pub Same→≡ : against a b ≡ Same → a ≡ b
-  Same→≡ e = elim (view a b) [ is_lower_view f _ ↦ absurd (clash (cc)) | is_same _ h ↦ h | is_greater f _ ↦ absurd (clash (cc)) ]
+  pub Equal→≡ : against a b ≡ Equal → a ≡ b
+  Equal→≡ e = elim (view a b) [ is_below f _ ↦ absurd (clash (cc)) | is_same _ h ↦ h | is_above f _ ↦ absurd (clash (cc)) ]
 
   pub Greater→≻ : against a b ≡ Greater → b ≺ a
-  Greater→≻ e = elim (view a b) [ is_lower_view f _ ↦ absurd (clash (cc)) | is_same f _ ↦ absurd (clash (cc)) | is_greater _ h ↦ h ]
+  Greater→≻ e = elim (view a b) [ is_below f _ ↦ absurd (clash (cc)) | is_same f _ ↦ absurd (clash (cc)) | is_above _ h ↦ h ]
 
-  pub ≺→Lower : a ≺ b → against a b ≡ Lower
-  ≺→Lower p =
-      elim (view a b) [ is_lower_view e _ ↦ e | is_same _ e ↦ absurd (≺_irrefl (rw e at p)) | is_greater _ h ↦ absurd (≺_irrefl (≺-≼ p (≺→≼ h))) ]
+  pub ≺→Less : a ≺ b → against a b ≡ Less
+  ≺→Less p =
+      elim (view a b) [ is_below e _ ↦ e | is_same _ e ↦ absurd (≺_irrefl (rw e at p)) | is_above _ h ↦ absurd (≺_irrefl (≺-≼ p (≺→≼ h))) ]
 
   pub ≻→Greater : b ≺ a → against a b ≡ Greater
   ≻→Greater p =
-      elim (view a b) [ is_lower_view _ h ↦ absurd (≺_irrefl (≺-≼ p (≺→≼ h))) | is_same _ e ↦ absurd (≺_irrefl (rw e at p)) | is_greater e _ ↦ e ]
+      elim (view a b) [ is_below _ h ↦ absurd (≺_irrefl (≺-≼ p (≺→≼ h))) | is_same _ e ↦ absurd (≺_irrefl (rw e at p)) | is_above e _ ↦ e ]
 
   pub ≼_total : (a ≼ b) ⊎ (b ≼ a)
-  ≼_total = elim (view a b) [ is_lower_view _ h ↦ inl (≺→≼ h) | is_same _ e ↦ inl (rw e (≼_refl b)) | is_greater _ h ↦ inr (≺→≼ h) ]
+  ≼_total = elim (view a b) [ is_below _ h ↦ inl (≺→≼ h) | is_same _ e ↦ inl (rw e (≼_refl b)) | is_above _ h ↦ inr (≺→≼ h) ]
 
   pub lower→≺ : T (lower a b) → a ≺ b
-  lower→≺ h = elim (view a b) [ is_lower_view _ p ↦ p | is_same e _ ↦ absurd (rw e at h) | is_greater e _ ↦ absurd (rw e at h) ]
+  lower→≺ h = elim (view a b) [ is_below _ p ↦ p | is_same e _ ↦ absurd (rw e at h) | is_above e _ ↦ absurd (rw e at h) ]
 
   pub ≺→lower : a ≺ b → T (lower a b)
-  ≺→lower p = rw (≺→Lower p) tt
+  ≺→lower p = rw (≺→Less p) tt
 
   pub not_lower→≼ : T (not (lower a b)) → b ≼ a
-  not_lower→≼ h = elim (view a b) [ is_lower_view e _ ↦ absurd (rw e at h) | is_same _ e ↦ rw e (≼_refl b) | is_greater _ p ↦ ≺→≼ p ]
+  not_lower→≼ h = elim (view a b) [ is_below e _ ↦ absurd (rw e at h) | is_same _ e ↦ rw e (≼_refl b) | is_above _ p ↦ ≺→≼ p ]
 
   pub same→≡ : T (same a b) → a ≡ b
   same→≡ h =
@@ -132,15 +132,15 @@ module _ (a b : Tag) where
   pub ≡→same : a ≡ b → T (same a b)
   ≡→same e = rw e (and_intro (eqb b.number b.number) (eqb b.client b.client) (eqb_refl b.number) (eqb_refl b.client))
 
-pub against_self : (a : Tag) → against a a ≡ Same
-against_self a = elim (view a a) [ is_lower_view _ h ↦ absurd (≺_irrefl h) | is_same e _ ↦ e | is_greater _ h ↦ absurd (≺_irrefl h) ]
+pub against_self : (a : Tag) → against a a ≡ Equal
+against_self a = elim (view a a) [ is_below _ h ↦ absurd (≺_irrefl h) | is_same e _ ↦ e | is_above _ h ↦ absurd (≺_irrefl h) ]
 
--- `same` is the comparison's test of Same
-pub same→Same : (a b : Tag) → T (same a b) → against a b ≡ Same
-same→Same a b h = rw (same→≡ a b h) (against_self b)
+-- `same` is the comparison's test of Equal
+pub same→Equal : (a b : Tag) → T (same a b) → against a b ≡ Equal
+same→Equal a b h = rw (same→≡ a b h) (against_self b)
 
-pub Same→same : (a b : Tag) → against a b ≡ Same → T (same a b)
-Same→same a b e = ≡→same a b (Same→≡ a b e)
+pub Equal→same : (a b : Tag) → against a b ≡ Equal → T (same a b)
+Equal→same a b e = ≡→same a b (Equal→≡ a b e)
 
 pub same_comm : (a b : Tag) → same a b ≡ same b a
 same_comm a b = T-ext (same a b) (same b a) (λ h. ≡→same b a (sym (same→≡ a b h))) (λ h. ≡→same a b (sym (same→≡ b a h)))

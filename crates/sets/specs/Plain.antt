@@ -1,7 +1,6 @@
--- "Perhaps one", membership, and plain functions of lists; truth values, numbers, lists and the choice by a test are the library's. Nothing of the paper stands here.
+-- Membership, and plain functions of lists; truth values, numbers, lists and the choice by a test are the library's. Nothing of the paper stands here.
 use Rattle.std.specs.Prelude.{Bool, false, ◌||◌, ℕ, zero, suc, eqb, List, [], ◌∷◌, if◌then◌else◌}
 pub use mathlib.Core.List.{Memᴰ}
-pub use Rattle.std.proofs.Math.Option.{Option, none, some}
 
 -- the elements that pass the test
 abbrev pub keep : {A : Type 0} → (A → Bool) → List A → List A

@@ -5,8 +5,10 @@ ghost use Rattle.std.specs.Prelude.{◌≡◌, ◌≤◌};
 ghost use Rattle.sets.specs.Tags.{against};
 ghost use Rattle.sets.specs.Sets.{has, size, join, only, with, all};
 
-// A write's number and the client that chose it.
-#[derive(Clone, Copy)]
+use std::cmp::Ordering;
+
+// A write's number and the client that chose it, compared by number, then client.
+#[derive(Clone, Copy, PartialEq, Eq, PartialOrd, Ord)]
 pub struct Tag {
     pub number: u32,
     pub client: u32,
@@ -18,31 +20,11 @@ pub const FIRST: Tag = Tag {
     client: 0,
 };
 
-// How a tag stands against another.
-#[derive(Clone, Copy)]
-pub enum Order {
-    Lower,
-    Same,
-    Greater,
-}
-
-// By number, then client.
-pub fn compare(a: Tag, b: Tag) -> Order
+// How a tag stands against another: the derived order, under the paper's definition of it.
+pub fn compare(a: Tag, b: Tag) -> Ordering
     ensures { result ≡ against a b }
 {
-    if a.number < b.number {
-        return Order::Lower;
-    }
-    if b.number < a.number {
-        return Order::Greater;
-    }
-    if a.client < b.client {
-        return Order::Lower;
-    }
-    if b.client < a.client {
-        return Order::Greater;
-    }
-    Order::Same
+    a.cmp(&b)
 }
 
 // How many parties are in s.

@@ -1,9 +1,9 @@
 -- A buffer that holds a whole machine, and the later words t. One law for each kind of write: a run of writes is a run of these.
-use mathlib.Core.Path.{◌≡◌, sym, ap, ◌∙◌}
-use mathlib.Core.List.{List}
-use Prim.Native.Nat.{ℕ, suc, ◌+◌, ◌*◌, ◌≤◌, ◌<◌}
+use mathlib.Core.Path.{◌≡◌, refl, sym, ap, ◌∙◌}
+use mathlib.Core.List.{List, ◌++◌}
+use Prim.Native.Nat.{ℕ, suc, ◌+◌, ◌*◌, ◌-◌, ◌≤◌, ◌<◌}
 use native.Mathlib.Omega.{arith}
-use lib.ListN.{length, drop}
+use lib.ListN.{length, take, drop}
 use Rattle.tables.specs.declared.Layout.{Layout}
 use Rattle.tables.specs.declared.Client.{Client}
 use Rattle.tables.specs.declared.Directory.{Directory}
@@ -14,6 +14,7 @@ use Rattle.tables.specs.Tables.{Machine, with_client, with_directory}
 use Rattle.tables.specs.Words.{client_words, directory_words, entry_words, words}
 use Rattle.tables.specs.Machines.{machine_of}
 use Rattle.tables.proofs.All.{length_with_row}
+use Rattle.tables.proofs.Parts.{put_rest}
 use Rattle.tables.proofs.Read.{its_room}
 use Rattle.tables.proofs.Whole.{Paged, Whole, Room, whole_of, whole_client, whole_directory, whole_entry}
 use Rattle.tables.proofs.Round.{machine_back, words_back, rest_words, length_words, put_client, put_directory, put_entry}
@@ -79,3 +80,19 @@ module _ {lay : Layout} {m : List ℕ} {M : Machine} {t : List ℕ} (h : Holds l
           whole = whole_entry h.whole (suc i) (suc j) x p;
           room = h.room;
         }
+
+-- ---- what a writer did to the part that it was lent, said of the machine
+
+module _ (lay : Layout) (m ys : List ℕ) (i : ℕ) (h : Fits lay m) where
+  pub client_written : (x : Client) → i < 8 → length x.page ≡ 16 → ys ≡ put (take (length m - (16 + i * 24)) (drop (16 + i * 24) m)) 0 (client_words x)
+      → take (16 + i * 24) m ++ (ys ++ drop (length m - (16 + i * 24)) (drop (16 + i * 24) m)) ≡ words (with_client (machine_of lay m) (suc i) x) (drop (extent lay) m)
+  client_written x b p e = put_rest m (16 + i * 24) (client_words x) ys e ∙ (holds_client (holds_start lay m h) _ i x b p refl).is
+
+  pub directory_written : (x : Directory) → i < lay.directories → ys ≡ put (take (length m - (208 + i * 4)) (drop (208 + i * 4) m)) 0 (directory_words x)
+      → take (208 + i * 4) m ++ (ys ++ drop (length m - (208 + i * 4)) (drop (208 + i * 4) m)) ≡ words (with_directory (machine_of lay m) (suc i) x) (drop (extent lay) m)
+  directory_written x b e = put_rest m (208 + i * 4) (directory_words x) ys e ∙ (holds_directory (holds_start lay m h) _ i x b refl).is
+
+  pub entry_written : (e at : ℕ) (x : Entry) → i < 7 → e < 12 → length x.page ≡ 16 → at ≡ entries_at lay + i * 240
+      → ys ≡ put (take (length m - (at + e * 20)) (drop (at + e * 20) m)) 0 (entry_words x)
+      → take (at + e * 20) m ++ (ys ++ drop (length m - (at + e * 20)) (drop (at + e * 20) m)) ≡ words (with_entry (machine_of lay m) (suc i) (suc e) x) (drop (extent lay) m)
+  entry_written e at x b g p k q = put_rest m (at + e * 20) (entry_words x) ys q ∙ rw k (holds_entry (holds_start lay m h) _ i e x b g p refl).is

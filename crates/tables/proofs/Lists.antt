@@ -1,19 +1,21 @@
 -- Lists of rows: the first row that passes a test, another row put in its place, a function of each row, and rows related one by one.
-use Rattle.std.specs.Prelude.{if◌then◌else◌}
-use mathlib.Core.Path.{◌≡◌, refl, sym, ap, ◌∙◌}
+use Rattle.std.specs.Prelude.{Option, None, Some, MatchOption, is_some, cond, find, position, if◌then◌else◌}
+use Rattle.std.specs.List.{position_or_len}
+use Rattle.std.specs.Option.{option_map}
+use Rattle.std.proofs.lemmas.List.Quantifiers.{position-Some}
+use mathlib.Core.Path.{◌≡◌, refl, sym, ap, subst, ◌∙◌}
 use mathlib.Core.Bool.{Bool, true, false, not}
 use mathlib.Core.List.Memᴰ
 use mathlib.Core.List.{List, [], ◌∷◌, map, Memᴰ}
 use mathlib.Core.Logic.{⊎_elim}
-use Prim.Native.Nat.{ℕ, zero, suc, ◌<◌}
-use native.Mathlib.Nat.{le_of_suc-le-suc, not-suc-le-zero}
+use Prim.Native.Nat.{ℕ, suc, ◌+◌, ◌<◌}
+use native.Mathlib.Numerals.{one-add}
 use native.Mathlib.Omega.{arith}
 use borrow.Author.Tests.{lt-ltb}
 use lib.Dec.{T, ltb, leb-suc-suc, T_not}
 use lib.ListN.{length, get_or, set}
 use Rattle.sets.proofs.Tests.{true-T, false-T, if_ind}
 use Rattle.tables.specs.Rows.{some?, every?, put_first}
-use Rattle.tables.specs.Inner.{before}
 use Rattle.tables.proofs.All.{All, none, cons}
 
 the_rest : (b c : Bool) → T (if b then true else c) → (T b → ⊥) → T c
@@ -25,23 +27,74 @@ both true c h = (tt, h)
 both false c h = absurd h
 
 module _ {A : Type 0} (p : A → Bool) where
-  pub some_before : (xs : List A) → some? p xs ≡ ltb (before p xs) (length xs)
-  some_before [] = refl
-  some_before (x ∷ xs) = go (p x) (some_before xs)
+  -- what `position` gives, row by row
+  pub position_ind : (P : List A → Option ℕ → Type 0) → P [] None → ((x : A) (xs : List A) → p x ≡ true → P (x ∷ xs) (Some 0))
+      → ((x : A) (xs : List A) (r : Option ℕ) → p x ≡ false → P xs r → P (x ∷ xs) (option_map suc r)) → (xs : List A) → P xs (position p xs)
+  position_ind P empty here later [] = empty
+  position_ind P empty here later (x ∷ xs) = go (p x) refl (position_ind P empty here later xs)
     where
-      go : (b : Bool) → some? p xs ≡ ltb (before p xs) (length xs)
-          → (if b then true else some? p xs) ≡ ltb (if b then 0 else suc (before p xs)) (suc (length xs))
-      go true e = sym (lt-ltb 0 (suc (length xs)) (omega arith))
-      go false e = e ∙ sym (leb-suc-suc (suc (before p xs)) (length xs))
+      n : ℕ
+      n = position_or_len p xs
 
-  pub put_first_set : (y : A) (xs : List A) → put_first p y xs ≡ set xs (before p xs) y
-  put_first_set y [] = refl
-  put_first_set y (x ∷ xs) = go (p x) (put_first_set y xs)
+      mapped : (b : Bool) → option_map suc (cond b (Some n) None) ≡ cond b (Some (suc n)) None
+      mapped true = refl
+      mapped false = refl
+
+      go : (b : Bool) → p x ≡ b → P xs (position p xs)
+          → P (x ∷ xs) (cond (ltb (cond (not b) (1 + n) 0) (suc (length xs))) (Some (cond (not b) (1 + n) 0)) None)
+      go true e h = rw (lt-ltb 0 (suc (length xs)) (omega arith)) (here x xs e)
+      go false e h = rw (one-add n, leb-suc-suc (suc n) (length xs), ← mapped (ltb n (length xs))) (later x xs (position p xs) e h)
+
+  -- some row passes just where there is a first one
+  pub some_position : (xs : List A) → some? p xs ≡ is_some (position p xs)
+  some_position = position_ind (λ xs r. some? p xs ≡ is_some r) refl (λ x xs e. rw e) (λ x xs r e h. rw e (h ∙ kept r))
     where
-      go : (b : Bool) → put_first p y xs ≡ set xs (before p xs) y
-          → (if b then y ∷ xs else x ∷ put_first p y xs) ≡ set (x ∷ xs) (if b then 0 else suc (before p xs)) y
+      kept : (r : Option ℕ) → is_some r ≡ is_some (option_map suc r)
+      kept None = refl
+      kept (Some i) = refl
+
+  -- the first row that passes gets y
+  put_first_at : (y : A) (xs : List A) → MatchOption (position p xs) (put_first p y xs ≡ xs) (λ i. put_first p y xs ≡ set xs i y)
+  put_first_at y = position_ind (λ xs r. MatchOption r (put_first p y xs ≡ xs) (λ i. put_first p y xs ≡ set xs i y)) refl (λ x xs e. rw e) (λ x xs r e h. later x xs r e h)
+    where
+      later : (x : A) (xs : List A) (r : Option ℕ) → p x ≡ false → MatchOption r (put_first p y xs ≡ xs) (λ i. put_first p y xs ≡ set xs i y)
+          → MatchOption (option_map suc r) (put_first p y (x ∷ xs) ≡ x ∷ xs) (λ i. put_first p y (x ∷ xs) ≡ set (x ∷ xs) i y)
+      later x xs None e h = rw e (ap (λ (l : List A). x ∷ l) h)
+      later x xs (Some i) e h = rw e (ap (λ (l : List A). x ∷ l) h)
+
+  module _ (y : A) (xs : List A) where
+    its_case : {r : Option ℕ} → r ≡ position p xs → MatchOption r (put_first p y xs ≡ xs) (λ i. put_first p y xs ≡ set xs i y)
+    its_case e = subst (λ (r : Option ℕ). MatchOption r (put_first p y xs ≡ xs) (λ i. put_first p y xs ≡ set xs i y)) (sym e) (put_first_at y xs)
+
+    pub put_first_some : {i : ℕ} → Some i ≡ position p xs → put_first p y xs ≡ set xs i y
+    put_first_some e = its_case e
+
+    pub put_first_none : None ≡ position p xs → put_first p y xs ≡ xs
+    put_first_none e = its_case e
+
+  pub position_lt : (xs : List A) {i : ℕ} → Some i ≡ position p xs → i < length xs
+  position_lt [] e = cc
+  position_lt (x ∷ xs) {i} e = (position-Some p (x ∷ xs) i x (sym e)).0
+
+  pub some_find : (xs : List A) → some? p xs ≡ is_some (find p xs)
+  some_find [] = refl
+  some_find (x ∷ xs) = go (p x) (some_find xs)
+    where
+      go : (b : Bool) → some? p xs ≡ is_some (find p xs) → (if b then true else some? p xs) ≡ is_some (cond b (Some x) (find p xs))
       go true e = refl
-      go false e = ap (λ (l : List A). x ∷ l) e
+      go false e = e
+
+  -- what `find` gives, by its place
+  pub find_position : (d : A) (xs : List A) → find p xs ≡ option_map (λ i. get_or xs i d) (position p xs)
+  find_position d = position_ind (λ xs r. find p xs ≡ option_map (λ i. get_or xs i d) r) refl (λ x xs e. rw e) (λ x xs r e h. rw e (h ∙ deeper x xs r))
+    where
+      deeper : (x : A) (xs : List A) (r : Option ℕ) → option_map (λ i. get_or xs i d) r ≡ option_map (λ i. get_or (x ∷ xs) i d) (option_map suc r)
+      deeper x xs None = refl
+      deeper x xs (Some i) = refl
+
+  pub length_put_first : (y : A) (xs : List A) → length (put_first p y xs) ≡ length xs
+  length_put_first y [] = refl
+  length_put_first y (x ∷ xs) = if_ind (λ (l : List A). length l ≡ suc (length xs)) (p x) (λ _. refl) (λ _. ap suc (length_put_first y xs))
 
   -- a row that passes, found and told; and so of every row
   pub some_in : (xs : List A) → T (some? p xs) → (x : A) × Memᴰ x xs × T (p x)
@@ -77,13 +130,6 @@ module _ {A : Type 0} (p : A → Bool) where
           → (if not b then true else some? (λ y. not (p y)) xs) ≡ not (if b then every? p xs else false)
       go true e = e
       go false e = refl
-
-module _ {A B : Type 0} (f : A → B) where
-  -- whatever is read past the end
-  pub map_at : (xs : List A) (i : ℕ) (d : A) (z : B) → i < length xs → get_or (map f xs) i z ≡ f (get_or xs i d)
-  map_at [] i d z h = absurd (not-suc-le-zero h)
-  map_at (x ∷ xs) zero d z h = refl
-  map_at (x ∷ xs) (suc i) d z h = map_at xs i d z (le_of_suc-le-suc h)
 
 module _ {A : Type 0} where
   -- where a row passes the test p, x stands afterwards

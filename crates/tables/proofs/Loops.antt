@@ -1,4 +1,4 @@
--- Loops over the rows of a list, said of the rows that are left: a search and a count.
+-- Loops over the rows of a list, said of the rows that are left: a count.
 use mathlib.Core.Path.{◌≡◌}
 use mathlib.Core.Bool.{Bool, true, false}
 use mathlib.Core.List.{List, [], ◌∷◌}
@@ -8,7 +8,6 @@ use native.Mathlib.Omega.{arith}
 use lib.ListN.{length, get_or, drop, drop_of_length-le}
 use lib.Seq.{drop-cons}
 use Rattle.tables.specs.Rows.{count}
-use Rattle.tables.specs.Inner.{before}
 
 -- ---- a turn at row i of n; t is where the loop ends, d any row
 module _ {A : Type 0} (d : A) (rows : List A) (n : ℕ) (many : length rows ≡ n) (i : ℕ) (h : i < n) where
@@ -16,16 +15,6 @@ module _ {A : Type 0} (d : A) (rows : List A) (n : ℕ) (many : length rows ≡ 
   turn = rw (add-one i) (drop-cons rows i d (rw many h))
 
   module _ (p : A → Bool) (t : ℕ) where
-    pub found : i + before p (drop i rows) ≡ t → p (get_or rows i d) ≡ true → i ≡ t
-    found e y =
-        let z : before p (drop i rows) ≡ 0 = rw (turn, y) in
-        omega arith
-
-    pub further : i + before p (drop i rows) ≡ t → p (get_or rows i d) ≡ false → i + 1 + before p (drop (i + 1) rows) ≡ t
-    further e y =
-        let z : before p (drop i rows) ≡ suc (before p (drop (i + 1) rows)) = rw (turn, y) in
-        omega arith
-
     pub counted : (k : ℕ) → k + count p (drop i rows) ≡ t → p (get_or rows i d) ≡ true → k + 1 + count p (drop (i + 1) rows) ≡ t
     counted k e y =
         let z : count p (drop i rows) ≡ suc (count p (drop (i + 1) rows)) = rw (turn, y) in
@@ -42,11 +31,6 @@ module _ {A : Type 0} (rows : List A) (n : ℕ) (many : length rows ≡ n) (i : 
   no_more = drop_of_length-le rows {i = i} (rw many h)
 
   module _ (p : A → Bool) where
-    pub missing : (t : ℕ) → i + before p (drop i rows) ≡ t → i ≡ t
-    missing t e =
-        let z : before p (drop i rows) ≡ 0 = rw no_more in
-        omega arith
-
     pub counted_all : (t k : ℕ) → k + count p (drop i rows) ≡ t → k ≡ t
     counted_all t k e =
         let z : count p (drop i rows) ≡ 0 = rw no_more in

@@ -1,7 +1,7 @@
 -- Where each row of the machine stands in the words, and that its words are read and written whole.
 use mathlib.Core.Path.{◌≡◌, refl, sym, ap, ◌∙◌}
 use mathlib.Core.List.{List}
-use Prim.Native.Nat.{ℕ, zero, suc, ◌+◌, ◌*◌, ◌≤◌, ◌<◌}
+use Prim.Native.Nat.{ℕ, zero, suc, ◌+◌, ◌*◌, ◌-◌, ◌≤◌, ◌<◌}
 use native.Mathlib.Nat.{add_comm, le_of_suc-le-suc, not-suc-le-zero}
 use native.Mathlib.Numerals.{add-one}
 use native.Mathlib.Omega.{arith}
@@ -11,13 +11,13 @@ use Rattle.tables.specs.declared.Layout.{Layout}
 use Rattle.tables.specs.declared.Client.{Client}
 use Rattle.tables.specs.declared.Directory.{Directory}
 use Rattle.tables.specs.declared.Party.{Party}
-use Rattle.tables.specs.declared.Party.TheVariants.{Nobody, AClient, ADirectory, AReplica}
+use Rattle.tables.specs.declared.Party.TheVariants.{AClient, ADirectory, AReplica}
 use Rattle.tables.specs.Tables.{Replica, no_client, no_directory, no_entry, no_replica, no_message, down_word}
 use Rattle.tables.specs.Layouts.{flags_at, entries_at, slots_at, extent}
 use Rattle.tables.specs.Inner.{Fits, most_of, down_at}
 use Rattle.tables.specs.Words.{client_words, directory_words, entry_words, replica_words, message_words}
 use Rattle.tables.specs.Machines.{client_of, directory_of, entry_of, message_of, clients_of, directories_of, slots_of, entries_of, replicas_of, machine_of}
-use Rattle.tables.proofs.Parts.{first_word_lem}
+use Rattle.tables.proofs.Parts.{first_word_lem, rest_all}
 use Rattle.tables.proofs.Table.{wider, take_cells, get_or_cut, part_cut, length_rows_of, get_or_rows_of, rows_of_cut, rows_words_back}
 
 -- ---- a row read and written again is its words
@@ -97,10 +97,19 @@ unfolding machine_of
 replica_at_lem lay m i h =
     replica_in_lem 7 i (drop (flags_at lay) m) (drop (entries_at lay) m) h ∙ rw (get_or-drop (flags_at lay) m i 0, drop-drop (i * 240) (entries_at lay) m)
 
+-- what a reader was lent
+pub client_read : (lay : Layout) (m : List ℕ) (i : ℕ) (x : Client) → i < 8 → x ≡ client_of (take (length m - (16 + i * 24)) (drop (16 + i * 24) m)) → x ≡ get_or (machine_of lay m).clients i no_client
+unfolding machine_of
+client_read lay m i x h e = e ∙ rw (rest_all m (16 + i * 24), ← drop-drop (i * 24) 16 m) (sym (client_at_lem (drop 16 m) i h))
+
+pub directory_read : (lay : Layout) (m : List ℕ) (i : ℕ) (x : Directory) → i < lay.directories → x ≡ directory_of (take (length m - (208 + i * 4)) (drop (208 + i * 4) m))
+    → x ≡ get_or (machine_of lay m).directories i no_directory
+unfolding machine_of
+directory_read lay m i x h e = e ∙ rw (rest_all m (208 + i * 4), ← drop-drop (i * 4) 208 m) (sym (directory_at_lem lay.directories (drop 208 m) i h))
+
 -- the down word of a party
 pub down_read : (lay : Layout) (m : List ℕ) (who : Party) (i : ℕ) → i < most_of lay who → get_or m (down_at lay who i) 0 ≡ down_word (machine_of lay m) who (suc i)
 unfolding machine_of client_of directory_of
-down_read lay m Nobody i h = absurd (not-suc-le-zero h)
 down_read lay m AClient i h =
     sym (ap (λ (w : Client). w.down) (client_at_lem (drop 16 m) i h) ∙ first_word_lem (drop 16 m) (i * 24) ∙ get_or-drop 16 m (i * 24) 0)
 down_read lay m ADirectory i h =
@@ -109,7 +118,6 @@ down_read lay m AReplica i h = sym (ap (λ (r : Replica). r.down) (replica_at_le
 
 -- it stands in the machine
 down_in : (lay : Layout) (who : Party) (i : ℕ) → i < most_of lay who → down_at lay who i < extent lay
-down_in lay Nobody i h = absurd (not-suc-le-zero h)
 down_in lay AClient i h = omega arith
 down_in lay ADirectory i h = omega arith
 down_in lay AReplica i h = omega arith

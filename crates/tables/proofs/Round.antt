@@ -2,7 +2,7 @@
 use mathlib.Core.Path.{◌≡◌, refl, sym, ap, ◌∙◌}
 use mathlib.Core.List.{List, [], ◌∷◌, ◌++◌, append_assoc, append-nil}
 use Prim.Native.Nat.{ℕ, zero, suc, ◌+◌, ◌*◌, ◌≤◌, ◌<◌}
-use native.Mathlib.Nat.{add-zero, add_assoc, mul-one, not-suc-le-zero}
+use native.Mathlib.Nat.{add-zero, add_assoc, mul-one}
 use native.Mathlib.Omega.{arith}
 use lib.ListN.{length, get_or, set, take, drop, length-append, length-drop, take-append-drop}
 use lib.Seq.{drop_at, drop-drop, take-add, take_at}
@@ -12,18 +12,18 @@ use Rattle.tables.specs.declared.Directory.{Directory}
 use Rattle.tables.specs.declared.Entry.{Entry}
 use Rattle.tables.specs.declared.Message.{Message}
 use Rattle.tables.specs.declared.Party.{Party}
-use Rattle.tables.specs.declared.Party.TheVariants.{Nobody, AClient, ADirectory, AReplica}
+use Rattle.tables.specs.declared.Party.TheVariants.{AClient, ADirectory, AReplica}
 use Rattle.tables.specs.Rows.{rows_words, joined}
 use Rattle.tables.specs.Layouts.{flags_at, gap_at, entries_at, slots_at, extent}
-use Rattle.tables.specs.Inner.{put, most_of, down_at, with_down, with_entry}
+use Rattle.tables.specs.Inner.{Fits, put, most_of, down_at, with_down, with_entry}
 use Rattle.tables.specs.Machines.{conf_of, client_of, directory_of, entry_of, message_of, clients_of, directories_of, slots_of, entries_of, replicas_of, machine_of}
 use Rattle.tables.specs.Tables.{Replica, Machine, no_client, no_directory, no_replica, replica_at, with_client, with_directory, with_slots}
 use Rattle.tables.specs.Words.{conf_words, client_words, directory_words, down_words, entry_words, replica_words, message_words, blocks, words}
 use Rattle.tables.proofs.All.{All, none, cons, all_of_lem, all_map}
 use Rattle.tables.proofs.Table.{Wide, wider, take_cells, set_put, length_rows, rows_same, rows_set, rows_of_back, rows_words_back}
 use Rattle.tables.proofs.Blocks.{offset, joined_drop, block_all, block_put, block_set}
-use Rattle.tables.proofs.Read.{client_words_lem, directory_words_lem, message_words_lem, replica_words_lem}
-use Rattle.tables.proofs.Whole.{Paged, Stocked, Whole, Room, replica_stocked}
+use Rattle.tables.proofs.Read.{client_words_lem, directory_words_lem, message_words_lem, replica_words_lem, its_room}
+use Rattle.tables.proofs.Whole.{Paged, Stocked, Whole, Room, whole_of, replica_stocked}
 
 -- ---- the width of each row
 
@@ -219,7 +219,6 @@ module _ (lay : Layout) (M : Machine) (t : List ℕ) (z : Whole M) (room : Room 
   -- a down word is the first of its row; a replica's stands alone, and its entries stay
   pub put_down : (who : Party) (i x : ℕ) → i < most_of lay who → set (words M t) (down_at lay who i) x ≡ words (with_down M who (suc i) x) t
   unfolding words blocks client_words directory_words down_words replica_words put
-  put_down Nobody i x h = absurd (not-suc-le-zero h)
   put_down AClient i x h =
       set_put (words M t) (16 + i * 24) x (rw length_words (omega arith))
       ∙ ap (λ (k : ℕ). put (words M t) (16 + k) (x ∷ [])) (sym (add-zero (i * 24)))
@@ -291,3 +290,11 @@ words_back lay m h =
       cut m 8 8 16 (omega arith),
     )
     (take-append-drop 8 m)
+
+-- a down word written in the buffer
+pub down_written : (lay : Layout) (m : List ℕ) (who : Party) (i x at : ℕ) → Fits lay m → i < most_of lay who → at ≡ down_at lay who i
+    → set m at x ≡ words (with_down (machine_of lay m) who (suc i) x) (drop (extent lay) m)
+down_written lay m who i x at h b e =
+    rw e
+    (ap (λ (q : List ℕ). set q (down_at lay who i) x) (sym (words_back lay m h.long))
+    ∙ put_down lay (machine_of lay m) (drop (extent lay) m) (whole_of lay m h.long) (its_room lay m) who i x b)

@@ -1,38 +1,42 @@
--- "Kinds" and "Carried fields": who sends and who receives a message of each kind, and what it carries.
-use Rattle.std.specs.Prelude.{Bool, not, ℕ, ltb, eqb, [], ◌∷◌, if◌then◌else◌}
+-- "Kinds" and "Carried fields": who sends and who receives a message of each kind, and what it carries. A number that is no kind has neither.
+use Rattle.std.specs.Prelude.{Bool, not, ℕ, ltb, eqb, [], ◌∷◌, Option, None, Some, if◌then◌else◌}
 use Rattle.sets.specs.Plain.{one_of}
 use Rattle.tables.specs.declared.Conf.{Conf}
 use Rattle.tables.specs.declared.Party.{Party}
-use Rattle.tables.specs.declared.Party.TheVariants.{Nobody, AClient, ADirectory, AReplica}
+use Rattle.tables.specs.declared.Party.TheVariants.{AClient, ADirectory, AReplica}
 
 -- 1 to 4 and 9 to 11 clients, 5 to 8 directories, 12 to 15 replicas
-unfoldable pub sender_of : ℕ → Party
+unfoldable pub sender_of : ℕ → Option Party
 sender_of k =
-    if ltb k 1 then Nobody
-    else if ltb k 5 then AClient
-    else if ltb k 9 then ADirectory
-    else if ltb k 12 then AClient
-    else if ltb k 16 then AReplica
-    else Nobody
+    if ltb k 1 then None
+    else if ltb k 5 then Some AClient
+    else if ltb k 9 then Some ADirectory
+    else if ltb k 12 then Some AClient
+    else if ltb k 16 then Some AReplica
+    else None
 
 -- 1 to 4 and 14 directories, 5 to 8, 12 and 13 clients, 9 to 11 and 15 replicas
-unfoldable pub receiver_of : ℕ → Party
+unfoldable pub receiver_of : ℕ → Option Party
 receiver_of k =
-    if ltb k 1 then Nobody
-    else if ltb k 5 then ADirectory
-    else if ltb k 9 then AClient
-    else if ltb k 12 then AReplica
-    else if ltb k 14 then AClient
-    else if ltb k 15 then ADirectory
-    else if ltb k 16 then AReplica
-    else Nobody
+    if ltb k 1 then None
+    else if ltb k 5 then Some ADirectory
+    else if ltb k 9 then Some AClient
+    else if ltb k 12 then Some AReplica
+    else if ltb k 14 then Some AClient
+    else if ltb k 15 then Some ADirectory
+    else if ltb k 16 then Some AReplica
+    else None
 
 -- how many parties of that kind there are
 abbrev pub many_of : Conf → Party → ℕ
-many_of k Nobody = 0
 many_of k AClient = k.clients
 many_of k ADirectory = k.directories
 many_of k AReplica = k.replicas
+
+-- and of the kind that a number names: none where it names none
+abbrev pub many_named : Conf → Option Party → ℕ
+many_named k None = 0
+many_named k (Some who) = many_of k who
 
 abbrev pub carries_set : ℕ → Bool
 carries_set k = one_of k (2 ∷ 4 ∷ 5 ∷ [])

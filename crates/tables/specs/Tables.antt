@@ -8,7 +8,7 @@ use Rattle.tables.specs.declared.Directory.{Directory}
 use Rattle.tables.specs.declared.Entry.{Entry}
 use Rattle.tables.specs.declared.Message.{Message}
 use Rattle.tables.specs.declared.Party.{Party}
-use Rattle.tables.specs.declared.Party.TheVariants.{Nobody, AClient, ADirectory, AReplica}
+use Rattle.tables.specs.declared.Party.TheVariants.{AClient, ADirectory, AReplica}
 use Rattle.tables.specs.Rows.{row, with_row}
 
 -- 16 words
@@ -64,7 +64,6 @@ slot_at M s = row no_message M.slots s
 
 -- the down word of party p of a kind
 abbrev pub down_word : Machine → Party → ℕ → ℕ
-down_word M Nobody p = 0
 down_word M AClient p = (client_at M p).down
 down_word M ADirectory p = (directory_at M p).down
 down_word M AReplica p = (replica_at M p).down

@@ -5,12 +5,14 @@ ghost use Rattle.tables.specs.Tables.{no_page, no_entry, no_message};
 use crate::{Entry, Message};
 use sets::FIRST;
 
+#[tactic(auto, unfolding(crate::specs::Tables::no_page))]
 pub fn no_page() -> [u32; 16]
     ensures { result ≡ no_page }
 {
     [0u32; 16]
 }
 
+#[tactic(auto, unfolding(crate::specs::Tables::no_entry))]
 pub fn no_entry() -> Entry
     ensures { result ≡ no_entry }
 {
@@ -22,6 +24,7 @@ pub fn no_entry() -> Entry
     }
 }
 
+#[tactic(auto, unfolding(crate::specs::Tables::no_message))]
 pub fn no_message() -> Message
     ensures { result ≡ no_message }
 {

@@ -33,6 +33,7 @@ pub struct Conf {
     pub columns: u32,
 }
 
+// A row's fields are its words, whatever they say: a phase, a state, a kind and a down word are numbers here, since a bad machine has rows too, and each is written back as it was read (`proofs/Round`).
 #[derive(Clone, Copy)]
 pub struct Client {
     pub down: u32,
@@ -45,7 +46,7 @@ pub struct Client {
     pub page: [u32; 16],
 }
 
-#[derive(Clone, Copy)]
+#[derive(Clone, Copy, PartialEq, Eq)]
 pub struct Directory {
     pub down: u32,
     pub tag: Tag,
@@ -72,10 +73,9 @@ pub struct Message {
     pub page: [u32; 16],
 }
 
-// Who sends or receives a message.
+// The kinds of parties. Where a number need not name one, it is an option: a slot with no message has neither sender nor receiver.
 #[derive(Clone, Copy)]
 pub enum Party {
-    Nobody,
     AClient,
     ADirectory,
     AReplica,

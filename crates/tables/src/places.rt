@@ -1,4 +1,4 @@
-// Where the tables stand in the whole buffer, and the rows of clients, directories and replicas at their places. Parties and entries count from 0 here, and from 1 in the machine.
+// Where the tables stand in the whole buffer, and the rows of clients, directories and replicas at their places. Parties and entries count from 0 here, and from 1 in the machine. The layout and the buffer stay two: a struct that holds a lent buffer has to promise with each change that the loan is the same, and a second one is needed to read (docs/DECISIONS.md). A place is a plain index, and its bound is asked. Clients and directories have start, width, row and definition of their own: a trait of rows would need all four for bodies of two lines. That a layout has at most 16 directory rows is asked, and no part of its type: the theorems of `runs` and `history` speak of any.
 ghost use Rattle.std.specs.Prelude.{◌≡◌, suc, ◌+◌, ◌*◌, ◌≤◌, ◌<◌, drop};
 ghost use Rattle.tables.specs.Tables.{client_at, directory_at, down_word, with_client, with_directory};
 ghost use Rattle.tables.specs.Layouts.{flags_at, gap_at, entries_at, slots_at, extent};
@@ -55,6 +55,7 @@ pub fn slots_at(lay: Layout) -> usize
     1900 + lay.directories * 4
 }
 
+#[tactic(auto, using(crate::proofs::Read::client_read))]
 pub fn client(lay: Layout, m: &[u32], i: usize) -> Client
     requires { Fits lay m.now × (i < 8) }
     ensures { result ≡ client_at (machine_of lay m.now) (suc i) }
@@ -63,6 +64,7 @@ pub fn client(lay: Layout, m: &[u32], i: usize) -> Client
     rows::client_at(&m[at..])
 }
 
+#[tactic(auto, using(crate::proofs::Holds::client_written))]
 pub fn set_client(lay: Layout, m: &mut [u32], i: usize, x: Client)
     requires { Fits lay m.old × (i < 8) }
     ensures { m.new ≡ words (with_client (machine_of lay m.old) (suc i) x) (drop (extent lay) m.old) }
@@ -71,6 +73,7 @@ pub fn set_client(lay: Layout, m: &mut [u32], i: usize, x: Client)
     rows::put_client(&mut m[at..], x);
 }
 
+#[tactic(auto, using(crate::proofs::Read::directory_read))]
 pub fn directory(lay: Layout, m: &[u32], i: usize) -> Directory
     requires { Fits lay m.now × (i < lay.directories) }
     ensures { result ≡ directory_at (machine_of lay m.now) (suc i) }
@@ -79,6 +82,7 @@ pub fn directory(lay: Layout, m: &[u32], i: usize) -> Directory
     rows::directory_at(&m[at..])
 }
 
+#[tactic(auto, using(crate::proofs::Holds::directory_written))]
 pub fn set_directory(lay: Layout, m: &mut [u32], i: usize, x: Directory)
     requires { Fits lay m.old × (i < lay.directories) }
     ensures { m.new ≡ words (with_directory (machine_of lay m.old) (suc i) x) (drop (extent lay) m.old) }
@@ -93,7 +97,6 @@ fn down_at(lay: Layout, who: Party, i: usize) -> usize
     ensures { result ≡ down_at lay who i }
 {
     match who {
-        Party::Nobody => 0,
         Party::AClient => CLIENTS + i * rows::CLIENT_ROW,
         Party::ADirectory => DIRECTORIES + i * rows::DIRECTORY_ROW,
         Party::AReplica => flags_at(lay) + i,
@@ -101,6 +104,7 @@ fn down_at(lay: Layout, who: Party, i: usize) -> usize
 }
 
 // The down word of a party.
+#[tactic(auto, using(crate::proofs::Read::down_read, crate::proofs::Read::down_low, crate::proofs::Read::down_inside))]
 pub fn down(lay: Layout, m: &[u32], who: Party, i: usize) -> u32
     requires { Fits lay m.now × (i < most_of lay who) }
     ensures { result ≡ down_word (machine_of lay m.now) who (suc i) }
@@ -108,6 +112,7 @@ pub fn down(lay: Layout, m: &[u32], who: Party, i: usize) -> u32
     m[down_at(lay, who, i)]
 }
 
+#[tactic(auto, using(crate::proofs::Read::down_low, crate::proofs::Read::down_inside, crate::proofs::Round::down_written))]
 pub fn set_down(lay: Layout, m: &mut [u32], who: Party, i: usize, x: u32)
     requires { Fits lay m.old × (i < most_of lay who) }
     ensures { m.new ≡ words (with_down (machine_of lay m.old) who (suc i) x) (drop (extent lay) m.old) }
@@ -116,6 +121,7 @@ pub fn set_down(lay: Layout, m: &mut [u32], who: Party, i: usize, x: u32)
 }
 
 // Entry e of replica i.
+#[tactic(auto, using(crate::proofs::Holds::entry_written))]
 pub fn set_entry(lay: Layout, m: &mut [u32], i: usize, e: usize, x: Entry)
     requires { Fits lay m.old × (i < 7) × (e < 12) }
     ensures { m.new ≡ words (with_entry (machine_of lay m.old) (suc i) (suc e) x) (drop (extent lay) m.old) }

@@ -1,4 +1,4 @@
-// Rows as parts of the buffer: each reader and writer is lent a part that begins at the row's first word.
+// Rows as parts of the buffer: each reader and writer is lent a part that begins at the row's first word ("as a part of the buffer, from its own first word on"), and no array of just its words, as a `From` would ask. Each lays out the fields of its own row; a trait over rows would hold the same bodies.
 ghost use Rattle.std.specs.Prelude.{◌≡◌, ◌≤◌, length, take};
 ghost use Rattle.tables.specs.Inner.{put};
 ghost use Rattle.tables.specs.Words.{client_words, directory_words, entry_words, message_words};
@@ -7,7 +7,7 @@ ghost use Rattle.tables.specs.Machines.{conf_of, client_of, directory_of, entry_
 use crate::{Client, Conf, Directory, Entry, Message};
 use sets::Tag;
 
-// How many words a row has, and the entries of a replica together.
+// How many words a row has, and the entries of a replica and the slots together.
 pub const CLIENT_ROW: usize = 24;
 
 pub const DIRECTORY_ROW: usize = 4;
@@ -18,16 +18,15 @@ pub const ENTRY_ROWS: usize = 240;
 
 pub const MESSAGE_ROW: usize = 24;
 
+pub const MESSAGE_ROWS: usize = 3072;
+
 // Writes r over the first words of s.
+#[tactic(auto, unfolding(crate::specs::Inner::put))]
 pub fn copy_in(s: &mut [u32], r: &[u32])
     requires { length r.now ≤ length s.old }
     ensures { s.new ≡ put s.old 0 r.now }
 {
-    let mut i = 0;
-    while i < r.len() {
-        s[i] = r[i];
-        i += 1;
-    }
+    s[..r.len()].copy_from_slice(r);
 }
 
 // The page that s begins with.
@@ -35,15 +34,10 @@ pub fn page_at(s: &[u32]) -> [u32; 16]
     requires { 16 ≤ length s.now }
     ensures { result ≡ take 16 s.now }
 {
-    let mut page = [0u32; 16];
-    let mut i = 0;
-    while i < 16 {
-        page[i] = s[i];
-        i += 1;
-    }
-    page
+    *s.first_chunk().unwrap()
 }
 
+#[tactic(auto, unfolding(crate::specs::Machines::conf_of))]
 pub fn conf_at(m: &[u32]) -> Conf
     requires { 8 ≤ length m.now }
     ensures { result ≡ conf_of m.now }
@@ -60,6 +54,7 @@ pub fn conf_at(m: &[u32]) -> Conf
     }
 }
 
+#[tactic(auto, unfolding(crate::specs::Machines::client_of))]
 pub fn client_at(row: &[u32]) -> Client
     requires { 24 ≤ length row.now }
     ensures { result ≡ client_of row.now }
@@ -75,7 +70,7 @@ pub fn client_at(row: &[u32]) -> Client
             client: row[6],
         },
         spare: row[7],
-        page: page_at(&row[8..24]),
+        page: page_at(&row[8..]),
     }
 }
 
@@ -93,11 +88,11 @@ pub fn put_client(row: &mut [u32], x: Client)
         x.tag.client,
         x.spare,
     ];
-    let page = x.page;
     copy_in(row, &head);
-    copy_in(&mut row[8..], &page);
+    copy_in(&mut row[8..], &x.page);
 }
 
+#[tactic(auto, unfolding(crate::specs::Machines::directory_of))]
 pub fn directory_at(row: &[u32]) -> Directory
     requires { 4 ≤ length row.now }
     ensures { result ≡ directory_of row.now }
@@ -112,14 +107,15 @@ pub fn directory_at(row: &[u32]) -> Directory
     }
 }
 
+#[tactic(auto, unfolding(crate::specs::Words::directory_words))]
 pub fn put_directory(row: &mut [u32], x: Directory)
     requires { 4 ≤ length row.old }
     ensures { row.new ≡ put row.old 0 (directory_words x) }
 {
-    let head = [x.down, x.tag.number, x.tag.client, x.set];
-    copy_in(row, &head);
+    copy_in(row, &[x.down, x.tag.number, x.tag.client, x.set]);
 }
 
+#[tactic(auto, unfolding(crate::specs::Machines::entry_of))]
 pub fn entry_at(row: &[u32]) -> Entry
     requires { 20 ≤ length row.now }
     ensures { result ≡ entry_of row.now }
@@ -131,7 +127,7 @@ pub fn entry_at(row: &[u32]) -> Entry
             client: row[2],
         },
         spare: row[3],
-        page: page_at(&row[4..20]),
+        page: page_at(&row[4..]),
     }
 }
 
@@ -140,11 +136,11 @@ pub fn put_entry(row: &mut [u32], x: Entry)
     ensures { row.new ≡ put row.old 0 (entry_words x) }
 {
     let head = [x.state, x.tag.number, x.tag.client, x.spare];
-    let page = x.page;
     copy_in(row, &head);
-    copy_in(&mut row[4..], &page);
+    copy_in(&mut row[4..], &x.page);
 }
 
+#[tactic(auto, unfolding(crate::specs::Machines::message_of))]
 pub fn message_at(row: &[u32]) -> Message
     requires { 24 ≤ length row.now }
     ensures { result ≡ message_of row.now }
@@ -160,7 +156,7 @@ pub fn message_at(row: &[u32]) -> Message
         set: row[5],
         number: row[6],
         spare: row[7],
-        page: page_at(&row[8..24]),
+        page: page_at(&row[8..]),
     }
 }
 
@@ -178,7 +174,6 @@ pub fn put_message(row: &mut [u32], x: Message)
         x.number,
         x.spare,
     ];
-    let page = x.page;
     copy_in(row, &head);
-    copy_in(&mut row[8..], &page);
+    copy_in(&mut row[8..], &x.page);
 }

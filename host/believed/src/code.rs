@@ -24,10 +24,20 @@ fn closes(line: &str, later: bool) -> bool {
     }
 }
 
-/// For every `pub fn` its lines up to the body.
+/// For every `pub fn` its lines up to the body; and every trait and every instance of one, whole,
+/// since contracts speak by their members.
 pub fn contracts(lines: &[&str]) -> Vec<Range<usize>> {
-    let begins = (0..lines.len()).filter(|&at| lines[at].starts_with("pub fn "));
-    begins.map(|at| at..body(lines, at)).collect()
+    (0..lines.len()).filter_map(|at| contract(lines, at)).collect()
+}
+
+fn contract(lines: &[&str], at: usize) -> Option<Range<usize>> {
+    let line = lines[at];
+    if line.starts_with("pub fn ") {
+        return Some(at..body(lines, at));
+    }
+    let whole = line.starts_with("pub trait ") || (line.starts_with("impl") && line.contains(" for "));
+    let end = (at..lines.len()).find(|&end| closes(lines[end], end > at));
+    end.filter(|_| whole).map(|end| at..end + 1)
 }
 
 /// The line of the body's brace, or the next one where the brace ends a line.

@@ -1,6 +1,6 @@
 //! Counts of files, and their sums as they are printed.
 
-/// What one file has: its things (structs, functions, statements), their lines, and how many lines are kept.
+/// What one file has: its things (structs, parts of contracts, statements), their lines, and how many lines are kept.
 pub struct Count {
     pub file: String,
     pub things: usize,
@@ -25,7 +25,7 @@ impl Group {
     }
 
     pub fn contracts(counts: Vec<Count>) -> Group {
-        Group { name: "contracts", thing: Some("function"), counts }
+        Group { name: "contracts", thing: Some("part"), counts }
     }
 
     pub fn theorems(counts: Vec<Count>) -> Group {

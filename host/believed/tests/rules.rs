@@ -35,8 +35,8 @@ fn files_one_by_one() {
 definitions: 3 files, 1019 lines, 7 of them neither blank nor `use`
     low/src/lib.rt: 2, 8 lines
 structs and enums: 2 in 1 file, 8 lines
-    high/src/lib.rt: 2 functions, 4 lines
-contracts: 2 functions in 1 file, 4 lines
+    high/src/lib.rt: 2 parts, 4 lines
+contracts: 2 parts in 1 file, 4 lines
     high/proofs/Final: 3 statements, 9 lines
 theorems: 3 statements in 1 file, 9 lines
 ";
@@ -47,11 +47,7 @@ theorems: 3 statements in 1 file, 9 lines
 fn a_fault_is_said_and_fails() {
     let repository = Repository::closed();
     repository.remove("crates/high/src/lib.rt");
-    repository.edit(
-        PROMISES,
-        "contracts: 2 functions in 1 file, 4 lines",
-        "contracts: 0 functions in 0 files, 0 lines",
-    );
+    repository.edit(PROMISES, "contracts: 2 parts in 1 file, 4 lines", "contracts: 0 parts in 0 files, 0 lines");
     let output = repository.run(&[]);
     assert_eq!(text(&output.stderr), "believed: `high/src/lib.rt` is listed, and there is no crates/high/src/lib.rt\n");
     assert_eq!(output.status.code(), Some(1));
@@ -263,12 +259,33 @@ fn the_lines_above_a_struct() {
     }
 }
 
+/// A contract speaks by the members of a trait, so the trait and its instances are read whole; an `impl` of methods is not.
+#[test]
+fn a_trait_in_a_contract() {
+    let code = "pub trait Doubled {
+    ghost by: { ℕ };
+}
+
+impl Doubled for Two {
+    ghost by = { 2 };
+}
+
+impl Two {
+}
+
+";
+    let repository = Repository::closed();
+    let file = "crates/high/src/lib.rt";
+    repository.edit(file, "// Not counted.", &format!("{code}// Not counted."));
+    assert_eq!(repository.faults(), ["the section does not say: contracts: 4 parts in 1 file, 10 lines"]);
+}
+
 #[test]
 fn a_sum_that_is_not_said() {
     for (old, new, sum) in [
         ("1,019 lines", "1,020 lines", 0),
         ("structs and enums: 2 in", "structs and enums: 3 in", 1),
-        ("contracts: 2 functions", "contracts: 2 calls", 2),
+        ("contracts: 2 parts", "contracts: 2 calls", 2),
         ("theorems: 3", "theorems: 4", 3),
     ] {
         let repository = Repository::closed();

@@ -23,7 +23,7 @@ pub const PROMISES: &str = "\
 
     definitions: 3 files, 1,019 lines, 7 of them neither blank nor `use`
     structs and enums: 2 in 1 file, 8 lines
-    contracts: 2 functions in 1 file, 4 lines
+    contracts: 2 parts in 1 file, 4 lines
     theorems: 3 statements in 1 file, 9 lines
 
 ## Wrong answers
@@ -38,7 +38,7 @@ The edit `high/sixth` too.
 pub const SUMS: &str = "\
 definitions: 3 files, 1019 lines, 7 of them neither blank nor `use`
 structs and enums: 2 in 1 file, 8 lines
-contracts: 2 functions in 1 file, 4 lines
+contracts: 2 parts in 1 file, 4 lines
 theorems: 3 statements in 1 file, 9 lines
 ";
 

@@ -1,24 +1,18 @@
 use mathlib.Core.Bool.{true}
-use mathlib.Core.List.{List}
+use mathlib.Core.List.{List, map}
 use mathlib.Core.Path.{◌≡◌}
-use Prim.Native.Nat.{ℕ, ◌-◌, ◌≤◌}
+use Prim.Native.Nat.{ℕ}
 use lib.ListN.{take}
 use Rattle.tables.specs.declared.Conf.{Conf}
 use Rattle.tables.specs.declared.Entry.{Entry}
-use Rattle.tables.specs.Machines.{entries_of}
-use Rattle.inspect.specs.Good.{good_entry, tags_once}
-use Rattle.inspect.specs.Inner.{Marked}
-use Rattle.inspect.proofs.Each.{Passed}
+use Rattle.tables.specs.Machines.{entry_of}
+use Rattle.inspect.specs.Inner.{good_entries, Marked}
 use Rattle.inspect.proofs.entries.all.Given as goal
 
--- the first j entries are good, have their tags once, and have left their marks
-pub record Sound (k : Conf) (es : List Entry) (j marks : ℕ) : Type 0 where
-  pub good : Passed (λ e. good_entry k) es j true
-  pub once : tags_once (take j es) ≡ true
-  pub marked : Marked es j marks
+-- the entries passed are good, and have left their marks
+pub record Sound (k : Conf) (es : List Entry) (marks : ℕ) : Type 0 where
+  pub good : good_entries k es ≡ true
+  pub marked : Marked es marks
 
 abbrev pub invariant-loop-j : goal.invariant-loop-j
-invariant-loop-j l = (l.j ≤ 12) × Sound l.k (entries_of l.l) l.j l.marks
-
-abbrev pub decreases-loop-j : goal.decreases-loop-j
-decreases-loop-j l = 12 - l.j
+invariant-loop-j l = Sound l.k (map entry_of (take l.j l.entries)) l.marks

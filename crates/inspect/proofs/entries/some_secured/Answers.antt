@@ -1,39 +1,22 @@
-use mathlib.Core.Bool.{Bool, true, false}
-use mathlib.Core.List.{List}
-use mathlib.Core.Path.{◌≡◌, sym}
-use Prim.Native.Nat.{ℕ, ◌+◌, ◌*◌, ◌<◌}
-use native.Mathlib.Nat.{add-zero}
+use mathlib.Core.Path.{ap, ◌∙◌}
 use native.Mathlib.Omega.{arith}
 use borrow.Author.Rules.{rules}
-use borrow.Author.Tests.{eq-eqb, ne_eqb}
-use lib.Dec.{eqb}
+use borrow.Author.Tests.{tests}
+use Rattle.std.proofs.lemmas.Iterator.{YieldsList-from_slice}
+use Rattle.std.proofs.lemmas.Iterator.Search.{any_from_yields_List}
 use lib.ListN.{get_or}
-use lib.Seq.{get_or-drop}
+use lib.Dec.{eqb}
 use Rattle.tables.specs.Rows.{some?}
-use Rattle.tables.specs.Tables.{no_entry, is_secured}
-use Rattle.tables.specs.Machines.{entry_of, entries_of}
-use Rattle.tables.proofs.Read.{entry_at, entries_many}
-use Rattle.inspect.proofs.Each.{Met, some_more, some_end}
+use Rattle.tables.specs.Tables.{is_secured}
+use Rattle.tables.specs.Machines.{entry_of}
+use Rattle.inspect.proofs.Chains.{its_entries, some_listed}
 use Rattle.inspect.proofs.entries.some_secured.Goals as goal
 
-module _ (l : List ℕ) (j : ℕ) (low : j < 12) (met : Met is_secured (entries_of l) j false) where
-  turn : (x : Bool) → eqb (get_or l (j * 20) 0) 2 ≡ x → Met is_secured (entries_of l) (j + 1) x
-  unfolding entry_of
-  turn x e =
-      some_more is_secured (entries_of l) j false met no_entry x (omega (arith, entries_many l))
-      (rw (entry_at l j low, get_or-drop (j * 20) l 0 0, add-zero) (sym e))
-
-  found : get_or l (j * 20) 0 ≡ 2 → true ≡ some? is_secured (entries_of l)
-  found h = turn true (eq-eqb _ _ h)
-
-  further : (get_or l (j * 20) 0 ≡ 2 → ⊥) → Met is_secured (entries_of l) (j + 1) false
-  further h = turn false (ne_eqb _ _ h)
-
-pub returns-then-l-j-eq2 : goal.returns-then-l-j-eq2
-returns-then-l-j-eq2 c = search found
-
-pub loop-j-preserved : goal.loop-j-preserved
-loop-j-preserved c = (search rules, search further)
-
 pub returns : goal.returns
-returns c = search (some_end, entries_many)
+unfolding entry_of
+returns c =
+    any_from_yields_List (λ r. eqb (get_or r 0 0) 2) _ _ _ c.any.ensures.ran
+    (YieldsList-from_slice (c.as_chunks.result.0.now) (cc))
+    (λ x b q k. search (rules, tests))
+    ∙ some_listed entry_of is_secured c.as_chunks.result.0.now
+    ∙ ap (some? is_secured) (its_entries c.args.l.now c.as_chunks.result.0.now c.as_chunks.ensures.front (omega arith))

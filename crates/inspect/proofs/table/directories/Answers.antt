@@ -1,32 +1,22 @@
-use Rattle.std.specs.Prelude.{if◌then◌else◌}
-use mathlib.Core.Bool.{Bool, ◌&&◌}
-use mathlib.Core.List.{List}
-use mathlib.Core.Path.{◌≡◌}
-use lib.Dec.{ltb}
-use lib.ListN.{take, drop}
-use Rattle.tables.specs.declared.Conf.{Conf}
-use Rattle.tables.specs.Words.{directory_words}
-use Prim.Native.Nat.{ℕ, ◌+◌, ◌*◌, ◌-◌, ◌<◌}
+use mathlib.Core.Path.{ap, ◌∙◌}
+use Prim.Native.Nat.{suc}
+use native.Mathlib.Omega.{arith}
 use borrow.Author.Rules.{rules}
-use Rattle.tables.specs.Tables.{no_directory}
+use borrow.Author.Tests.{tests}
+use Rattle.std.proofs.lemmas.Iterator.{YieldsList-from_slice}
+use Rattle.std.proofs.lemmas.Iterator.Search.{all_from_yields_List}
+use Rattle.std.proofs.lemmas.Iterator.Consumers.{YieldsList-from_enumerate, YieldsList-at}
 use Rattle.tables.specs.Machines.{directory_of, directories_of}
-use Rattle.tables.proofs.Read.{directory_at_lem, directories_many, directory_cut}
-use Rattle.inspect.specs.Good.{zeros, good_directory, directory_row}
-use Rattle.inspect.proofs.Each.{Passed, each_end, table_more}
+use Rattle.tables.proofs.Read.{directory_cut}
+use Rattle.inspect.specs.Good.{each_row, directory_row}
+use Rattle.inspect.proofs.Chains.{its_rows, each_listed}
 use Rattle.inspect.proofs.table.directories.Goals as goal
 
-module _ (k : Conf) (n : ℕ) (l : List ℕ) (i : ℕ) (ok : Bool) (g : Passed (directory_row k) (directories_of n l) i ok) where
-  more : (x : Bool) → i < n
-      → x ≡ (if ltb i k.directories then good_directory k (directory_of (take (i * 4 + 4 - i * 4) (drop (i * 4) l)))
-      else zeros (directory_words (directory_of (take (i * 4 + 4 - i * 4) (drop (i * 4) l)))))
-      → Passed (directory_row k) (directories_of n l) (i + 1) (ok && x)
-  unfolding directory_row
-  more x h e =
-      table_more (directory_row k) directory_of no_directory (directories_of n l) l n 4 (λ i. i * 4) (directories_many n l) (directory_at_lem n l) directory_cut
-      i ok g x h e
-
-pub loop-i-preserved : goal.loop-i-preserved
-loop-i-preserved c = (search rules, search more)
-
 pub returns : goal.returns
-returns c = search (each_end, directories_many)
+unfolding directories_of directory_row
+returns c = λ n many.
+    all_from_yields_List (λ p. directory_row c.args.k (suc p.0) (directory_of p.1)) _ _ _ c.all.ensures.ran
+    (YieldsList-from_enumerate (YieldsList-at c.enumerate.ensures.source (YieldsList-from_slice (c.as_chunks.result.0.now) (cc))) c.enumerate.ensures.count)
+    (λ x b q k. search (rules, tests))
+    ∙ each_listed directory_of (directory_row c.args.k) 0 c.as_chunks.result.0.now
+    ∙ ap (each_row (directory_row c.args.k) 1) (its_rows directory_of 4 directory_cut n c.args.l.now c.as_chunks.result.0.now c.as_chunks.ensures.front (omega arith) many)

@@ -1,41 +1,42 @@
+use Rattle.std.specs.Prelude.{None, Some}
 use mathlib.Core.Path.{◌≡◌}
 use Prim.Native.Nat.{ℕ, ◌≤◌, ◌<◌}
 use native.Mathlib.Omega.{arith}
 use borrow.Author.Tests.{le-ltb, lt-ltb}
-use Rattle.tables.specs.declared.Party.TheVariants.{Nobody, AClient, ADirectory, AReplica}
+use Rattle.tables.specs.declared.Party.TheVariants.{AClient, ADirectory, AReplica}
 use Rattle.tables.specs.Kinds.{receiver_of}
 use Rattle.machine.proofs.receiving.receiver_of.Goals as goal
 
 module _ (n : ℕ) where
-  below : n < 1 → Nobody ≡ receiver_of n
+  below : n < 1 → None ≡ receiver_of n
   unfolding receiver_of
   below h = simp (lt-ltb _ _ h)
 
-  from_one : 1 ≤ n → n < 5 → ADirectory ≡ receiver_of n
+  from_one : 1 ≤ n → n < 5 → Some ADirectory ≡ receiver_of n
   unfolding receiver_of
   from_one l h = simp (le-ltb _ _ l, lt-ltb _ _ h)
 
-  from_five : 5 ≤ n → n < 9 → AClient ≡ receiver_of n
+  from_five : 5 ≤ n → n < 9 → Some AClient ≡ receiver_of n
   unfolding receiver_of
   from_five l h = simp (le-ltb n 1 (omega arith), le-ltb _ _ l, lt-ltb _ _ h)
 
-  from_nine : 9 ≤ n → n < 12 → AReplica ≡ receiver_of n
+  from_nine : 9 ≤ n → n < 12 → Some AReplica ≡ receiver_of n
   unfolding receiver_of
   from_nine l h = simp (le-ltb n 1 (omega arith), le-ltb n 5 (omega arith), le-ltb _ _ l, lt-ltb _ _ h)
 
-  from_twelve : 12 ≤ n → n < 14 → AClient ≡ receiver_of n
+  from_twelve : 12 ≤ n → n < 14 → Some AClient ≡ receiver_of n
   unfolding receiver_of
   from_twelve l h = simp (le-ltb n 1 (omega arith), le-ltb n 5 (omega arith), le-ltb n 9 (omega arith), le-ltb _ _ l, lt-ltb _ _ h)
 
-  fourteen : n ≡ 14 → ADirectory ≡ receiver_of n
+  fourteen : n ≡ 14 → Some ADirectory ≡ receiver_of n
   unfolding receiver_of
   fourteen e = rw e
 
-  fifteen : n ≡ 15 → AReplica ≡ receiver_of n
+  fifteen : n ≡ 15 → Some AReplica ≡ receiver_of n
   unfolding receiver_of
   fifteen e = rw e
 
-  above : 14 ≤ n → (n ≡ 14 → ⊥) → (n ≡ 15 → ⊥) → Nobody ≡ receiver_of n
+  above : 14 ≤ n → (n ≡ 14 → ⊥) → (n ≡ 15 → ⊥) → None ≡ receiver_of n
   unfolding receiver_of
   above l p q =
       let h : 16 ≤ n = omega (arith, p, q) in

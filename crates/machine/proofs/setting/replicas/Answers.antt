@@ -6,9 +6,9 @@ use Rattle.machine.proofs.Laid.{replica_more}
 use Rattle.machine.proofs.setting.replicas.Goals as goal
 
 pub loop-i-init : goal.loop-i-init
-loop-i-init c = (search rules, search holds_start)
+loop-i-init c = search holds_start
 
 pub loop-i-preserved : goal.loop-i-preserved
 loop-i-preserved c =
     let page_wide : length c.args.x.page ≡ 16 = search rules in
-    (search rules, search (replica_more, page_wide))
+    search (replica_more, page_wide)

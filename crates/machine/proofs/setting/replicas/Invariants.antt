@@ -1,4 +1,3 @@
-use Prim.Native.Nat.{◌-◌, ◌≤◌}
 use lib.ListN.{drop}
 use Rattle.tables.specs.Layouts.{extent}
 use Rattle.tables.specs.Machines.{machine_of}
@@ -7,7 +6,4 @@ use Rattle.machine.specs.Inner.{with_replicas}
 use Rattle.machine.proofs.setting.replicas.Given as goal
 
 abbrev pub invariant-loop-i : goal.invariant-loop-i
-invariant-loop-i l = (l.i ≤ l.n) × Holds l.lay l.m (with_replicas (machine_of l.lay l.initial.m) l.i l.x) (drop (extent l.lay) l.initial.m)
-
-abbrev pub decreases-loop-i : goal.decreases-loop-i
-decreases-loop-i l = l.n - l.i
+invariant-loop-i l = Holds l.lay l.m (with_replicas (machine_of l.lay l.initial.m) l.i l.x) (drop (extent l.lay) l.initial.m)

@@ -1,5 +1,5 @@
 use mathlib.Core.Path.{◌≡◌}
-use Prim.Native.Nat.{◌+◌, ◌-◌, ◌≤◌}
+use Prim.Native.Nat.{◌+◌, ◌≤◌}
 use lib.ListN.{drop}
 use Rattle.tables.specs.Rows.{count}
 use Rattle.tables.specs.Tables.{is_empty}
@@ -7,7 +7,4 @@ use Rattle.tables.specs.Machines.{slots_of}
 use Rattle.mail.proofs.slots.empty_slots.Given as goal
 
 abbrev pub invariant-loop-s : goal.invariant-loop-s
-invariant-loop-s l = (l.s ≤ 128) × (l.n ≤ l.s) × (l.n + count is_empty (drop l.s (slots_of l.l)) ≡ count is_empty (slots_of l.l))
-
-abbrev pub decreases-loop-s : goal.decreases-loop-s
-decreases-loop-s l = 128 - l.s
+invariant-loop-s l = (l.n ≤ l.s) × (l.n + count is_empty (drop l.s (slots_of l.l)) ≡ count is_empty (slots_of l.l))

@@ -1,8 +1,5 @@
-use Rattle.mail.proofs.Sending.{entered, not_entered}
+use Rattle.mail.proofs.Sending.{entered}
 use Rattle.mail.proofs.slots.enter.Goals as goal
 
-pub returns-then-s-lt128 : goal.returns-then-s-lt128
-returns-then-s-lt128 c = search entered
-
-pub returns-else-s-lt128 : goal.returns-else-s-lt128
-returns-else-s-lt128 c = search not_entered
+pub returns-in-Some : goal.returns-in-Some
+returns-in-Some c = entered _ _ _ _ c.in-Some.ensures c.set_slot.ensures

@@ -26,9 +26,6 @@ module _ (l n : List ℕ) (s : ℕ) (h : 3072 ≤ length l) (e : n ≡ with_mail
   both m y p f =
       f ∙ rw (e, slots_back l (with_row (slots_of l) (suc s) no_message) emptied) (mail_twice l emptied (mail_placed (pages_sent y p) emptied))
 
-pub send-requires : goal.send-requires
-send-requires c = (search long, search rules)
-
 pub returns : goal.returns
 returns c =
     let page_wide : length c.args.y.message.page ≡ 16 = search rules in

@@ -1,9 +1,8 @@
-use borrow.Author.Rules.{rules}
 use Rattle.schedule.proofs.Digits.{no_fields, next_field}
 use Rattle.schedule.proofs.printing.put_fields.Goals as goal
 
-pub loop-i-init : goal.loop-i-init
-loop-i-init c = (search rules, search rules, search no_fields)
+pub loop-n-init : goal.loop-n-init
+loop-n-init c = search no_fields
 
-pub loop-i-preserved : goal.loop-i-preserved
-loop-i-preserved c = (search rules, search rules, search next_field)
+pub loop-n-preserved : goal.loop-n-preserved
+loop-n-preserved c = search next_field

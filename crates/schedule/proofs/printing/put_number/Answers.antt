@@ -1,4 +1,4 @@
-use borrow.Author.Rules.{rules}
+use Rattle.std.proofs.Common.{rules}
 use Rattle.schedule.specs.Text.{decimal}
 use Rattle.schedule.proofs.printing.put_number.Goals as goal
 

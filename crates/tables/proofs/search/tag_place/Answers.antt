@@ -1,15 +1,10 @@
-use borrow.Author.Rules.{rules}
-use Rattle.tables.specs.Tables.{no_entry}
-use Rattle.tables.proofs.Read.{entries_many}
-use Rattle.tables.proofs.Loops.{found, further, missing}
-use Rattle.tables.proofs.Empty.{entry_tagged}
+use Rattle.std.proofs.Common.{rules, tests}
+use Rattle.std.proofs.lemmas.Iterator.Search.{position_from_yields_List}
+use Rattle.tables.specs.Tables.{has_tag}
+use Rattle.tables.proofs.Chains.{entries_yielded}
 use Rattle.tables.proofs.search.tag_place.Goals as goal
 
-pub returns-then-has_tag : goal.returns-then-has_tag
-returns-then-has_tag c = search (found no_entry, entry_tagged, entries_many)
-
-pub loop-e-preserved : goal.loop-e-preserved
-loop-e-preserved c = (search rules, search (further no_entry, entry_tagged, entries_many))
-
 pub returns : goal.returns
-returns c = search (missing, entries_many)
+returns c =
+    position_from_yields_List (has_tag c.args.t) _ _ c.position.result c.position.ensures.ran (entries_yielded c.args.l.now c.chunks_exact.ensures.size c.chunks_exact.ensures.rest c.requires)
+    (λ x b q k. search (rules, tests))

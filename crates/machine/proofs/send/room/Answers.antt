@@ -1,5 +1,0 @@
-use Rattle.machine.proofs.Mailed.{roomy}
-use Rattle.machine.proofs.send.room.Goals as goal
-
-pub returns : goal.returns
-returns c = search roomy

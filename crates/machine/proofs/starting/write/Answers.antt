@@ -1,0 +1,11 @@
+use Rattle.machine.proofs.Steps.{call_refused}
+use Rattle.machine.proofs.Started.{writes}
+use Rattle.machine.proofs.Refused.{handed_on}
+use Rattle.machine.proofs.starting.write.Goals as goal
+
+pub returns-in_err-ask : goal.returns-in_err-ask
+returns-in_err-ask c =
+    rw (handed_on c.from_residual.result _ c.from_residual.ensures.1) (search (call_refused, c.in_err-ask.ensures))
+
+pub returns : goal.returns
+returns c = search (writes, c.in_ok-ask.ensures)
