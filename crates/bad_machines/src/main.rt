@@ -48,9 +48,10 @@ fn respond(rt: &impl Print, m: &mut Words, line: &[u8]) -> io::Result<()> {
             answer(rt, is_good(m), text)
         }
         _ => {
-            let (place, rest) = number::field(line);
-            let (value, text) = number::field(rest);
-            answer(rt, with_word(m, place as usize, value), text)
+            let place = number::field(line);
+            let value = number::field(place.rest);
+            let ok = with_word(m, place.value as usize, value.value);
+            answer(rt, ok, value.rest)
         }
     }
 }

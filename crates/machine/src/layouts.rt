@@ -16,9 +16,11 @@ pub trait LaidOut {
 }
 
 // 5 directory rows and counts.
+#[derive(Clone, Copy)]
 pub struct Base;
 
 // 16 directory rows, in columns.
+#[derive(Clone, Copy)]
 pub struct Wide;
 
 impl LaidOut for Base {

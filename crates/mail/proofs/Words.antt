@@ -80,7 +80,7 @@ mail_same l h =
     mail_is l (slots_of l) (mail_read l h) ∙ rw (rows_words_back message_of message_words 128 24 l message_words_lem h) (take-append-drop 3072 l)
 
 -- one slot
-slot_put : (l : List ℕ) (s : ℕ) (x : Message) → 3072 ≤ length l → s < 128 → Paged x.page → put l (s * 24) (message_words x) ≡ with_mail l (with_row (slots_of l) (suc s) x)
+pub slot_put : (l : List ℕ) (s : ℕ) (x : Message) → 3072 ≤ length l → s < 128 → Paged x.page → put l (s * 24) (message_words x) ≡ with_mail l (with_row (slots_of l) (suc s) x)
 slot_put l s x h b p =
     let k : Mail (slots_of l) = mail_read l h in
     ap (λ (q : List ℕ). put q (s * 24) (message_words x)) (sym (mail_same l h) ∙ mail_is l (slots_of l) k)

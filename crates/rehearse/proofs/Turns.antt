@@ -1,5 +1,5 @@
 -- Turns over a chunk: each meets a line end or the chunk's end, and what was to come goes on.
-use Rattle.std.proofs.Common.{◌≡◌, refl, sym, ap, ◌∙◌, List, [], ◌∷◌, ◌++◌, append_assoc, append-nil, ℕ, ◌+◌, ◌<◌, ◌≤◌, arith, length, length-drop, IfSome, min, ◌-◌, drop, Option, Some, None, Bool, true, false}
+use Rattle.std.proofs.Common.{◌≡◌, refl, sym, ap, ◌∙◌, List, [], ◌∷◌, ◌++◌, append_assoc, append-nil, ℕ, ◌+◌, ◌<◌, ◌≤◌, arith, length, length-drop, IfSome, min, ◌-◌, take, drop, Option, Some, None, Bool, true, false}
 use Rattle.std.proofs.lemmas.List.{drop-drop}
 use Rattle.std.proofs.Math.Seq.{drop-length}
 use Rattle.std.specs.Io.KnownBytes.{Appends}
@@ -13,8 +13,8 @@ use Rattle.schedule.specs.Inner.{Printed}
 use Rattle.rehearse.specs.declared.Rehearsal.{Rehearsal}
 use Rattle.rehearse.specs.declared.output.Output.{Output}
 use Rattle.rehearse.specs.Rehearsal.{outcome_of, printed, following, output_of}
-use Rattle.rehearse.specs.Pieces.{Stand, ahead}
-use Rattle.rehearse.specs.Turns.{machines_of, waiting, stand, Answered, Went, left_of, Turned, DrainedInto, Unwritten, EndedIn}
+use Rattle.rehearse.specs.Pieces.{ahead}
+use Rattle.rehearse.specs.Turns.{machines_of, waiting, Answered, left_of, Turned, DrainedInto, Goes, Unwritten, EndedIn}
 
 -- the answered command is the first of those to come
 first_of : (c : Command) (s r : Rehearsal) → Answered c s r → (cs : List Command)
@@ -56,20 +56,50 @@ module _ (chunk : List ℕ) (s : Rehearsal) (line : Line) where
             };
       }
 
--- part of a chunk is answered: what was written, and what waits
+-- part of a chunk is answered: what was written up to the middle, and what waits since then
 pub record Answering (chunk : List ℕ) (s : Rehearsal) (before : Option (List ℕ)) (r : Rehearsal) (after : Option (List ℕ)) (rest : List ℕ) : Type 0 where
+  pub middle : Rehearsal
+  pub from : ℕ
   pub text : List ℕ
+  pub sent : Goes chunk s 0 middle text from
+  pub empty : middle.output.len ≡ 0
   pub written : Appends before after text
-  pub room : r.output.len ≤ 65389
   pub place : ℕ
-  pub within : place ≤ length chunk
+  pub answered : Goes chunk middle from r (waiting r) place
+  pub room : r.output.len ≤ 65389
   pub left : rest ≡ drop place chunk
-  pub went : (p : List ℕ) → Held p s.line → Went (stand s p) [] chunk r (text ++ waiting r) rest
+
+-- from a place to itself
+stays : (chunk : List ℕ) (s : Rehearsal) (place : ℕ) (w : List ℕ) → place ≤ length chunk → w ≡ [] → Goes chunk s place s w place
+stays chunk s place w h e =
+    record { low = omega arith; high = h; went = λ p held. record { pending = p; held = held; same = λ later. rw e } }
+
+-- from one place to another, and on to a third
+goes_on : (chunk : List ℕ) (s : Rehearsal) (a : ℕ) (m : Rehearsal) (v : List ℕ) (b : ℕ) (r : Rehearsal) (w : List ℕ) (c : ℕ)
+    → Goes chunk s a m v b → Goes chunk m b r w c → Goes chunk s a r (v ++ w) c
+goes_on chunk s a m v b r w c g h =
+    record {
+      low = omega (arith, g.low, h.low);
+      high = h.high;
+      went = λ p held.
+          let x = g.went p held in
+          let y = h.went x.pending x.held in
+          record {
+            pending = y.pending;
+            held = y.held;
+            same = λ later. x.same later ∙ ap (λ (z : List ℕ). v ++ z) (y.same later) ∙ sym (append_assoc v w _);
+          };
+    }
 
 -- the output does not count but for what waits in it
-went_with : (a : Stand) (w i : List ℕ) (r : Rehearsal) (v i' : List ℕ) → Went a w i r v i' → (out : Output) (v' i'' : List ℕ) → v' ≡ v → i'' ≡ i'
-    → Went a w i (record r { output = out }) v' i''
-went_with a w i r v i' g out v' i'' e f = record { pending = g.pending; held = g.held; same = λ later. rw (e, f) (g.same later) }
+goes_with : (chunk : List ℕ) (s : Rehearsal) (a : ℕ) (r : Rehearsal) (v : List ℕ) (b : ℕ) → Goes chunk s a r v b → (out : Output) (w : List ℕ) → w ≡ v
+    → Goes chunk s a (record r { output = out }) w b
+goes_with chunk s a r v b g out w e =
+    record {
+      low = g.low;
+      high = g.high;
+      went = λ p held. let x = g.went p held in record { pending = x.pending; held = x.held; same = λ later. rw e (x.same later) };
+    }
 
 -- the place in a chunk after a turn
 abbrev place_after : Option ℕ → ℕ → List ℕ → ℕ
@@ -80,85 +110,113 @@ left_after : (next : Option ℕ) (place : ℕ) (chunk rest : List ℕ) → rest 
 left_after (Some next) place chunk rest e = rw e (drop-drop next place chunk)
 left_after None place chunk rest e = sym (drop-length chunk)
 
-within_after : (next : Option ℕ) (place : ℕ) (chunk rest : List ℕ) → rest ≡ drop place chunk → place ≤ length chunk
-    → IfSome next (λ at. (0 < at) × (at ≤ length rest)) → (min 1 (length chunk) ≤ place_after next place chunk) × (place_after next place chunk ≤ length chunk)
-within_after (Some next) place chunk rest e h w =
+within_after : (next : Option ℕ) (from place : ℕ) (chunk rest : List ℕ) → rest ≡ drop place chunk → from ≤ place → place ≤ length chunk
+    → IfSome next (λ at. (0 < at) × (at ≤ length rest)) → (min (from + 1) (length chunk) ≤ place_after next place chunk) × (place_after next place chunk ≤ length chunk)
+within_after (Some next) from place chunk rest e l h w =
     let k : length rest ≡ length chunk - place = ap length e ∙ length-drop place chunk in (omega (arith, w.0), omega (arith, w.1))
-within_after None place chunk rest e h w = (omega arith, omega arith)
+within_after None from place chunk rest e l h w = (omega arith, omega arith)
 
 module _ (chunk : List ℕ) (s : Rehearsal) (before : Option (List ℕ)) where
   pub none_yet : s.output.len ≡ 0 → Answering chunk s before s before chunk
   none_yet e =
       record {
+        middle = s;
+        from = 0;
         text = [];
+        sent = stays chunk s 0 [] (omega arith) refl;
+        empty = e;
         written = Appends-nil before;
-        room = omega arith;
         place = 0;
-        within = omega arith;
+        answered = stays chunk s 0 (waiting s) (omega arith) (rw e);
+        room = omega arith;
         left = refl;
-        went = λ p held. record { pending = p; held = held; same = λ later. rw e };
       }
 
   module _ (r : Rehearsal) (after : Option (List ℕ)) (rest : List ℕ) (g : Answering chunk s before r after rest) (t : Rehearsal) (next : Option ℕ) (w : Turned rest r t next) where
-    -- the way so far, and the turn
-    on : (p : List ℕ) → Held p s.line → Went (stand s p) [] chunk t (g.text ++ waiting t) (left_of next rest)
-    on p held =
-        let a = g.went p held in
-        let b = w.went a.pending a.held in
+    within : (min (g.from + 1) (length chunk) ≤ place_after next g.place chunk) × (place_after next g.place chunk ≤ length chunk)
+    within = within_after next g.from g.place chunk rest g.left g.answered.low g.answered.high w.place
+
+    -- from the middle on, with the turn
+    on : Goes chunk g.middle g.from t (waiting t) (place_after next g.place chunk)
+    on =
         record {
-          pending = b.pending;
-          held = b.held;
-          same = λ later.
-              a.same later ∙ append_assoc g.text (waiting r) _ ∙ ap (λ (z : List ℕ). g.text ++ z) (b.same later) ∙ sym (append_assoc g.text (waiting t) _);
+          low = omega (arith, within, g.answered.low, g.answered.high);
+          high = within.1;
+          went = λ p held.
+              let a = g.answered.went p held in
+              let b = w.went a.pending a.held in
+              record {
+                pending = b.pending;
+                held = b.held;
+                same = λ later. a.same later ∙ rw (← left_after next g.place chunk rest g.left, ← g.left) (b.same later);
+              };
         }
 
-    within : (min 1 (length chunk) ≤ place_after next g.place chunk) × (place_after next g.place chunk ≤ length chunk)
-    within = within_after next g.place chunk rest g.left g.within w.place
+    -- the same from the chunk's start
+    all : Goes chunk s 0 t (g.text ++ waiting t) (place_after next g.place chunk)
+    all = goes_on _ _ _ _ _ _ _ _ _ g.sent on
 
     pub next_line : (more : List ℕ) → more ≡ left_of next rest → t.output.len ≤ 65389 → Answering chunk s before t after more
     next_line more m h =
         record {
+          middle = g.middle;
+          from = g.from;
           text = g.text;
+          sent = g.sent;
+          empty = g.empty;
           written = g.written;
-          room = h;
           place = place_after next g.place chunk;
-          within = within.1;
+          answered = on;
+          room = h;
           left = m ∙ left_after next g.place chunk rest g.left;
-          went = λ p held. rw m (on p held);
         }
 
-    -- the output is written
-    module _ (out : Output) (later : Option (List ℕ)) (a : Appends after later (waiting t)) (e : out.len ≡ 0) where
+    -- the output is written, all that waits in it
+    module _ (out : Output) (later : Option (List ℕ)) (n : ℕ) (b : List ℕ) (k : n ≡ t.output.len) (f : b ≡ t.output.bytes) (a : Appends after later (take n b)) (e : out.len ≡ 0) where
       pub next_full : (more : List ℕ) → more ≡ left_of next rest → Answering chunk s before (record t { output = out }) later more
       next_full more m =
           record {
+            middle = record t { output = out };
+            from = place_after next g.place chunk;
             text = g.text ++ waiting t;
-            written = Appends-trans _ _ _ _ _ g.written a;
-            room = omega arith;
+            sent = goes_with _ _ _ t _ _ all out _ refl;
+            empty = e;
+            written = Appends-trans _ _ _ _ _ g.written (rw (k, f) at a);
             place = place_after next g.place chunk;
-            within = within.1;
+            answered = stays chunk (record t { output = out }) _ _ within.1 (rw e);
+            room = omega arith;
             left = m ∙ left_after next g.place chunk rest g.left;
-            went = λ p held. went_with _ _ _ t _ _ (on p held) out _ more (rw (e, append-nil)) m;
           }
 
       pub drained : next ≡ None → DrainedInto chunk s before (record t { output = out }) later
-      drained n =
+      drained none =
           record {
-            drained = record { text = g.text ++ waiting t; went = λ p held. went_with _ _ _ t _ _ (on p held) out _ [] refl (rw n) };
+            drained = record { text = g.text ++ waiting t; went = λ p held. rw (none, drop-length chunk) at ((goes_with _ _ _ t _ _ all out _ refl).went p held) };
             empty = e;
-            written = Appends-trans _ _ _ _ _ g.written a;
+            written = Appends-trans _ _ _ _ _ g.written (rw (k, f) at a);
           }
 
     -- or is not
-    pub not_written : (out : Output) → out.len ≡ t.output.len → out.bytes ≡ t.output.bytes → Unwritten chunk s (record t { output = out })
+    pub not_written : (out : Output) → out.len ≡ t.output.len → out.bytes ≡ t.output.bytes → Unwritten chunk s before (record t { output = out })
     not_written out e f =
         record {
+          middle = g.middle;
+          from = g.from;
           text = g.text;
+          sent = g.sent;
+          empty = g.empty;
+          after = after;
+          written = g.written;
           place = place_after next g.place chunk;
+          answered = goes_with _ _ _ t _ _ on out _ (rw (e, f));
           some = within.0;
-          within = within.1;
-          went = λ p held. went_with _ _ _ t _ _ (on p held) out _ _ (rw (e, f)) (sym (left_after next g.place chunk rest g.left));
+          room = omega (arith, w.room);
         }
+
+-- then the lines up to the place were answered, from the chunk's start: what was written before, and what waits
+pub answered_so_far : (chunk : List ℕ) (s : Rehearsal) (before : Option (List ℕ)) (r : Rehearsal) (u : Unwritten chunk s before r)
+    → (min 1 (length chunk) ≤ u.place) × Goes chunk s 0 r (u.text ++ waiting r) u.place
+answered_so_far chunk s before r u = (omega (arith, u.some), goes_on _ _ _ _ _ _ _ _ _ u.sent u.answered)
 
 -- the end of the input
 module _ (s : Rehearsal) (b : Bool) (u : (p : List ℕ) → Held p s.line → malformed_if b ≡ unfinished p) (e : s.output.len ≡ 0) where

@@ -31,7 +31,7 @@ struct Reply {
 }
 
 // Where the program stands.
-#[derive(Drop)]
+#[derive(Clone, Copy)]
 struct Rehearsal {
     lines: u64, // the lines so far
     line: Line, // the pending line
@@ -92,7 +92,7 @@ impl Rehearsal {
     fn drain<W: Write>(&mut self, writer: &mut W, chunk: &[u8]) -> Result<(), Failure>
         requires { self.old.output.len ≡ 0 }
         ensures drained { OnOk result (DrainedInto chunk.now self.old (W.contents writer.old) self.new (W.contents writer.new)) }
-        ensures unwritten { OnErr result (Unwritten chunk.now self.old self.new) }
+        ensures unwritten { OnErr result (Unwritten chunk.now self.old (W.contents writer.old) self.new) }
     {
         let mut rest = chunk;
         while let Some(next) = self.turn(rest) {

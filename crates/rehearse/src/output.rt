@@ -11,7 +11,7 @@ use schedule::printing;
 use std::io::Write;
 
 // The first `len` of the bytes wait. How many may wait before a line is put, or before all is written, is asked there: it is another number each time.
-#[derive(Drop)]
+#[derive(Clone, Copy)]
 pub(crate) struct Output {
     bytes: [u8; 65536],
     len: usize,

@@ -8,7 +8,7 @@ use borrow.Author.Tests.{ne_eqb}
 use lib.Dec.{T, eqb, leb, eqb→eq, leb→le, nleb→lt, T_not, eqb_refl}
 use Rattle.sets.specs.declared.Tag.{Tag}
 use Rattle.sets.specs.Tags.{tag}
-use Rattle.sets.specs.Sets.{has}
+use Rattle.sets.specs.Sets.{has, size}
 use Rattle.sets.proofs.Tests.{neither, not_not, if_ind}
 use Rattle.tables.specs.declared.Conf.{Conf}
 use Rattle.tables.specs.declared.Client.{Client}
@@ -24,6 +24,12 @@ use Rattle.rules.proofs.Heard.{heard_keeps}
 none_awaited : (p : ℕ) → (p ≡ 1 → ⊥) → (p ≡ 2 → ⊥) → (p ≡ 3 → ⊥) → (p ≡ 4 → ⊥) → (p ≡ 5 → ⊥) → (p ≡ 6 → ⊥) → 0 ≡ awaited p
 unfolding awaited
 none_awaited p a b c d e f = simp (ne_eqb _ _ a, ne_eqb _ _ b, ne_eqb _ _ c, ne_eqb _ _ d, ne_eqb _ _ e, ne_eqb _ _ f)
+
+-- a page is kept once f + 1 replicas have it
+module _ (k : Conf) (p s : ℕ) where
+  pub enough_stored : (n : ℕ) → p ≡ 5 → n ≡ size s → leb (k.f + 1) n ≡ enough_for k p s
+  unfolding enough_for
+  enough_stored n q e = simp (q, e)
 
 -- a reply that is not stale
 pub record Timely (w : Client) (x : Message) : Type 0 where

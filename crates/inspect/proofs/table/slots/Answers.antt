@@ -14,7 +14,7 @@ pub returns : goal.returns
 unfolding slots_of slot_row
 returns c =
     all_from_yields_List (λ r. slot_row c.args.k 0 (message_of r)) _ _ _ c.all.ensures.ran
-    (YieldsList-from_slice (c.as_chunks.result.0.now) (cc))
+    (YieldsList-from_slice (c.as_chunks.result.0.now) (search rules))
     (λ x b q k. search (rules, tests))
     ∙ all_listed message_of (slot_row c.args.k 0) 1 c.as_chunks.result.0.now
     ∙ ap (each_row (slot_row c.args.k) 1) (its_rows message_of 24 message_cut 128 c.args.l.now c.as_chunks.result.0.now c.as_chunks.ensures.front (omega arith) (omega arith))

@@ -2,4 +2,4 @@ use Rattle.mail.proofs.Sending.{entered}
 use Rattle.mail.proofs.slots.enter.Goals as goal
 
 pub returns-in-Some : goal.returns-in-Some
-returns-in-Some c = entered _ _ _ _ c.in-Some.ensures c.set_slot.ensures
+returns-in-Some c = search (entered, c.in-Some.ensures, c.set_slot.ensures)

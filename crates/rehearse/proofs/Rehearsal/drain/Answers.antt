@@ -1,4 +1,4 @@
-use Rattle.std.proofs.Common.{refl}
+use Rattle.std.proofs.Common.{refl, arith}
 use Rattle.std.proofs.lemmas.Result.{on_ok_weaker, on_err_weaker, err_from_is_err_and}
 use Rattle.std.proofs.lemmas.List.{take_rest}
 use Rattle.rehearse.proofs.Turns.{none_yet, next_line, next_full, drained, not_written}
@@ -10,12 +10,12 @@ loop-next-init g c = none_yet _ _ _ c.requires
 pub loop-next-preserved-in-Continue-1 : goal.loop-next-preserved-in-Continue-1
 loop-next-preserved-in-Continue-1 g c =
     let w = c.in_ok-flush.ensures.written in
-    next_full _ _ _ _ _ _ c.loop-next.invariant _ _ c.in-Some.ensures _ _ w.0 w.1 _ (take_rest c.loop-next.rest.now c.in-Some.next)
+    next_full _ _ _ _ _ _ c.loop-next.invariant _ _ c.in-Some.ensures _ _ _ _ (omega arith) (cc) w.0 w.1 _ (take_rest c.loop-next.rest.now c.in-Some.next)
 
 pub returns-in_err-flush-clause-unwritten : goal.returns-in_err-flush-clause-unwritten
 returns-in_err-flush-clause-unwritten g c =
     let failed = err_from_is_err_and c.from_residual.result c.from_residual.ensures.1 in
-    rw failed.1 (not_written _ _ _ _ _ _ c.loop-next.invariant _ _ c.in-Some.ensures _ c.in_err-flush.ensures.left c.in_err-flush.ensures.same)
+    rw failed.1 (not_written _ _ _ _ _ _ c.loop-next.invariant _ _ c.in-Some.ensures _ (omega (arith, c.in_err-flush.ensures.left)) c.in_err-flush.ensures.same)
 
 pub loop-next-preserved : goal.loop-next-preserved
 loop-next-preserved g c =
@@ -23,7 +23,7 @@ loop-next-preserved g c =
 
 pub returns-clause-drained : goal.returns-clause-drained
 returns-clause-drained g c =
-    on_ok_weaker c.flush-2.result (λ w. drained _ _ _ _ _ _ c.loop-next.invariant _ _ c.in_default.ensures _ _ w.0 w.1 refl) c.flush-2.ensures.written
+    on_ok_weaker c.flush-2.result (λ w. drained _ _ _ _ _ _ c.loop-next.invariant _ _ c.in_default.ensures _ _ _ _ refl refl w.0 w.1 refl) c.flush-2.ensures.written
 
 pub returns-clause-unwritten : goal.returns-clause-unwritten
 returns-clause-unwritten g c =
