@@ -1,5 +1,5 @@
 -- Turns over a chunk: each meets a line end or the chunk's end, and what was to come goes on.
-use Rattle.std.proofs.Common.{◌≡◌, refl, sym, ap, ◌∙◌, List, [], ◌∷◌, ◌++◌, append_assoc, append-nil, ℕ, ◌+◌, ◌<◌, ◌≤◌, arith, length, length-drop, IfSome, min, ◌-◌, take, drop, Option, Some, None, Bool, true, false}
+use Rattle.std.proofs.Common.{◌≡◌, refl, sym, ap, ◌∙◌, List, [], ◌∷◌, ◌++◌, append_assoc, append-nil, ℕ, ◌+◌, ◌<◌, ◌≤◌, arith, length, length-drop, IfSome, min, ◌-◌, drop, Option, Some, None, Bool, true, false}
 use Rattle.std.proofs.lemmas.List.{drop-drop}
 use Rattle.std.proofs.Math.Seq.{drop-length}
 use Rattle.std.specs.Io.KnownBytes.{Appends}
@@ -14,7 +14,7 @@ use Rattle.rehearse.specs.declared.Rehearsal.{Rehearsal}
 use Rattle.rehearse.specs.declared.output.Output.{Output}
 use Rattle.rehearse.specs.Rehearsal.{outcome_of, printed, following, output_of}
 use Rattle.rehearse.specs.Pieces.{ahead}
-use Rattle.rehearse.specs.Turns.{machines_of, waiting, Answered, left_of, Turned, DrainedInto, Goes, Unwritten, EndedIn}
+use Rattle.rehearse.specs.Turns.{machines_of, waiting, Answered, left_of, Turned, Goes, Consumed, Passed, Unwritten, DrainedInto, Stopped, EndedIn}
 
 -- the answered command is the first of those to come
 first_of : (c : Command) (s r : Rehearsal) → Answered c s r → (cs : List Command)
@@ -56,19 +56,6 @@ module _ (chunk : List ℕ) (s : Rehearsal) (line : Line) where
             };
       }
 
--- part of a chunk is answered: what was written up to the middle, and what waits since then
-pub record Answering (chunk : List ℕ) (s : Rehearsal) (before : Option (List ℕ)) (r : Rehearsal) (after : Option (List ℕ)) (rest : List ℕ) : Type 0 where
-  pub middle : Rehearsal
-  pub from : ℕ
-  pub text : List ℕ
-  pub sent : Goes chunk s 0 middle text from
-  pub empty : middle.output.len ≡ 0
-  pub written : Appends before after text
-  pub place : ℕ
-  pub answered : Goes chunk middle from r (waiting r) place
-  pub room : r.output.len ≤ 65389
-  pub left : rest ≡ drop place chunk
-
 -- from a place to itself
 stays : (chunk : List ℕ) (s : Rehearsal) (place : ℕ) (w : List ℕ) → place ≤ length chunk → w ≡ [] → Goes chunk s place s w place
 stays chunk s place w h e =
@@ -91,6 +78,23 @@ goes_on chunk s a m v b r w c g h =
           };
     }
 
+-- in a chunk, what goes in the rest of it
+goes_later : (chunk : List ℕ) (place : ℕ) (rest : List ℕ) (s r : Rehearsal) (w : List ℕ) (n : ℕ) → rest ≡ drop place chunk → place ≤ length chunk
+    → Goes rest s 0 r w n → Goes chunk s place r w (place + n)
+goes_later chunk place rest s r w n e h g =
+    let k : length rest ≡ length chunk - place = ap length e ∙ length-drop place chunk in
+    record {
+      low = omega arith;
+      high = omega (arith, g.high);
+      went = λ p held.
+          let x = g.went p held in
+          record {
+            pending = x.pending;
+            held = x.held;
+            same = λ later. rw (← drop-drop n place chunk, ← e) (x.same later);
+          };
+    }
+
 -- the output does not count but for what waits in it
 goes_with : (chunk : List ℕ) (s : Rehearsal) (a : ℕ) (r : Rehearsal) (v : List ℕ) (b : ℕ) → Goes chunk s a r v b → (out : Output) (w : List ℕ) → w ≡ v
     → Goes chunk s a (record r { output = out }) w b
@@ -101,122 +105,104 @@ goes_with chunk s a r v b g out w e =
       went = λ p held. let x = g.went p held in record { pending = x.pending; held = x.held; same = λ later. rw e (x.same later) };
     }
 
+-- ---- turns until the output is full
+pub record Consuming (chunk : List ℕ) (s r : Rehearsal) (place : ℕ) : Type 0 where
+  pub room : r.output.len ≤ 65389
+  pub answered : Goes chunk s 0 r (waiting r) place
+
+pub none_yet : (chunk : List ℕ) (s : Rehearsal) → s.output.len ≡ 0 → Consuming chunk s s 0
+none_yet chunk s e = record { room = omega arith; answered = stays chunk s 0 (waiting s) (omega arith) (rw e) }
+
 -- the place in a chunk after a turn
-abbrev place_after : Option ℕ → ℕ → List ℕ → ℕ
+abbrev pub place_after : Option ℕ → ℕ → List ℕ → ℕ
 place_after (Some next) place chunk = place + next
 place_after None place chunk = length chunk
 
-left_after : (next : Option ℕ) (place : ℕ) (chunk rest : List ℕ) → rest ≡ drop place chunk → left_of next rest ≡ drop (place_after next place chunk) chunk
-left_after (Some next) place chunk rest e = rw e (drop-drop next place chunk)
-left_after None place chunk rest e = sym (drop-length chunk)
+left_after : (next : Option ℕ) (place : ℕ) (chunk : List ℕ) → left_of next (drop place chunk) ≡ drop (place_after next place chunk) chunk
+left_after (Some next) place chunk = drop-drop next place chunk
+left_after None place chunk = sym (drop-length chunk)
 
-within_after : (next : Option ℕ) (from place : ℕ) (chunk rest : List ℕ) → rest ≡ drop place chunk → from ≤ place → place ≤ length chunk
-    → IfSome next (λ at. (0 < at) × (at ≤ length rest)) → (min (from + 1) (length chunk) ≤ place_after next place chunk) × (place_after next place chunk ≤ length chunk)
-within_after (Some next) from place chunk rest e l h w =
-    let k : length rest ≡ length chunk - place = ap length e ∙ length-drop place chunk in (omega (arith, w.0), omega (arith, w.1))
-within_after None from place chunk rest e l h w = (omega arith, omega arith)
+within_after : (next : Option ℕ) (place : ℕ) (chunk : List ℕ) → place ≤ length chunk → IfSome next (λ at. (0 < at) × (at ≤ length (drop place chunk)))
+    → (place ≤ place_after next place chunk) × (min 1 (length chunk) ≤ place_after next place chunk) × (place_after next place chunk ≤ length chunk)
+within_after (Some next) place chunk h w =
+    let k : length (drop place chunk) ≡ length chunk - place = length-drop place chunk in (omega arith, omega (arith, w.0), omega (arith, w.1))
+within_after None place chunk h w = (omega arith, omega arith, omega arith)
 
-module _ (chunk : List ℕ) (s : Rehearsal) (before : Option (List ℕ)) where
-  pub none_yet : s.output.len ≡ 0 → Answering chunk s before s before chunk
-  none_yet e =
+module _ (chunk : List ℕ) (s r : Rehearsal) (place : ℕ) (g : Consuming chunk s r place) (t : Rehearsal) (next : Option ℕ) (w : Turned (drop place chunk) r t next) where
+  pub consumed : Consumed chunk s [] t (place_after next place chunk)
+  consumed =
+      let within = within_after next place chunk g.answered.high w.place in
       record {
-        middle = s;
-        from = 0;
-        text = [];
-        sent = stays chunk s 0 [] (omega arith) refl;
-        empty = e;
-        written = Appends-nil before;
-        place = 0;
-        answered = stays chunk s 0 (waiting s) (omega arith) (rw e);
-        room = omega arith;
-        left = refl;
-      }
-
-  module _ (r : Rehearsal) (after : Option (List ℕ)) (rest : List ℕ) (g : Answering chunk s before r after rest) (t : Rehearsal) (next : Option ℕ) (w : Turned rest r t next) where
-    within : (min (g.from + 1) (length chunk) ≤ place_after next g.place chunk) × (place_after next g.place chunk ≤ length chunk)
-    within = within_after next g.from g.place chunk rest g.left g.answered.low g.answered.high w.place
-
-    -- from the middle on, with the turn
-    on : Goes chunk g.middle g.from t (waiting t) (place_after next g.place chunk)
-    on =
-        record {
-          low = omega (arith, within, g.answered.low, g.answered.high);
-          high = within.1;
+        some = within.1;
+        answered = record {
+          low = omega arith;
+          high = within.2;
           went = λ p held.
               let a = g.answered.went p held in
               let b = w.went a.pending a.held in
-              record {
-                pending = b.pending;
-                held = b.held;
-                same = λ later. a.same later ∙ rw (← left_after next g.place chunk rest g.left, ← g.left) (b.same later);
-              };
+              record { pending = b.pending; held = b.held; same = λ later. a.same later ∙ rw (← left_after next place chunk) (b.same later) };
+        };
+        room = w.room;
+      }
+
+  pub consuming : t.output.len ≤ 65389 → Consuming chunk s t (place_after next place chunk)
+  consuming h = record { room = h; answered = consumed.answered }
+
+-- ---- the output is written, or is not
+module _ (chunk : List ℕ) (s t : Rehearsal) (place : ℕ) (g : Consumed chunk s [] t place) (out : Output) where
+  pub passed : (before after : Option (List ℕ)) → Appends before after (waiting t) → out.len ≡ 0 → Passed chunk s before (record t { output = out }) after place
+  passed before after a e =
+      record { text = waiting t; some = g.some; answered = goes_with _ _ _ t _ _ g.answered out _ refl; empty = e; written = a }
+
+-- ---- passes over a chunk
+pub record Draining (chunk : List ℕ) (s : Rehearsal) (before : Option (List ℕ)) (r : Rehearsal) (after : Option (List ℕ)) (rest : List ℕ) : Type 0 where
+  pub text : List ℕ
+  pub place : ℕ
+  pub answered : Goes chunk s 0 r text place
+  pub empty : r.output.len ≡ 0
+  pub written : Appends before after text
+  pub left : rest ≡ drop place chunk
+
+module _ (chunk : List ℕ) (s : Rehearsal) (before : Option (List ℕ)) where
+  pub no_pass : s.output.len ≡ 0 → Draining chunk s before s before chunk
+  no_pass e =
+      record { text = []; place = 0; answered = stays chunk s 0 [] (omega arith) refl; empty = e; written = Appends-nil before; left = refl }
+
+  module _ (r : Rehearsal) (after : Option (List ℕ)) (rest : List ℕ) (g : Draining chunk s before r after rest) where
+    pub one_pass : (t : Rehearsal) (later : Option (List ℕ)) (n : ℕ) → Passed rest r after t later n → (more : List ℕ) → more ≡ drop n rest
+        → Draining chunk s before t later more
+    one_pass t later n w more m =
+        record {
+          text = g.text ++ w.text;
+          place = g.place + n;
+          answered = goes_on _ _ _ _ _ _ _ _ _ g.answered (goes_later chunk g.place rest r t w.text n g.left g.answered.high w.answered);
+          empty = w.empty;
+          written = Appends-trans _ _ _ _ _ g.written w.written;
+          left = m ∙ ap (λ (z : List ℕ). drop n z) g.left ∙ drop-drop n g.place chunk;
         }
 
-    -- the same from the chunk's start
-    all : Goes chunk s 0 t (g.text ++ waiting t) (place_after next g.place chunk)
-    all = goes_on _ _ _ _ _ _ _ _ _ g.sent on
-
-    pub next_line : (more : List ℕ) → more ≡ left_of next rest → t.output.len ≤ 65389 → Answering chunk s before t after more
-    next_line more m h =
+    pub drained : rest ≡ [] → DrainedInto chunk s before r after
+    drained e =
         record {
-          middle = g.middle;
-          from = g.from;
-          text = g.text;
-          sent = g.sent;
+          drained = record { text = g.text; went = λ p held. rw (← g.left, e) at (g.answered.went p held) };
           empty = g.empty;
           written = g.written;
-          place = place_after next g.place chunk;
-          answered = on;
-          room = h;
-          left = m ∙ left_after next g.place chunk rest g.left;
         }
 
-    -- the output is written, all that waits in it
-    module _ (out : Output) (later : Option (List ℕ)) (n : ℕ) (b : List ℕ) (k : n ≡ t.output.len) (f : b ≡ t.output.bytes) (a : Appends after later (take n b)) (e : out.len ≡ 0) where
-      pub next_full : (more : List ℕ) → more ≡ left_of next rest → Answering chunk s before (record t { output = out }) later more
-      next_full more m =
-          record {
-            middle = record t { output = out };
-            from = place_after next g.place chunk;
-            text = g.text ++ waiting t;
-            sent = goes_with _ _ _ t _ _ all out _ refl;
-            empty = e;
-            written = Appends-trans _ _ _ _ _ g.written (rw (k, f) at a);
-            place = place_after next g.place chunk;
-            answered = stays chunk (record t { output = out }) _ _ within.1 (rw e);
-            room = omega arith;
-            left = m ∙ left_after next g.place chunk rest g.left;
-          }
-
-      pub drained : next ≡ None → DrainedInto chunk s before (record t { output = out }) later
-      drained none =
-          record {
-            drained = record { text = g.text ++ waiting t; went = λ p held. rw (none, drop-length chunk) at ((goes_with _ _ _ t _ _ all out _ refl).went p held) };
-            empty = e;
-            written = Appends-trans _ _ _ _ _ g.written (rw (k, f) at a);
-          }
-
-    -- or is not
-    pub not_written : (out : Output) → out.len ≡ t.output.len → out.bytes ≡ t.output.bytes → Unwritten chunk s before (record t { output = out })
-    not_written out e f =
+    pub stopped : (t : Rehearsal) → Unwritten rest r [] t → Stopped chunk s t
+    stopped t u =
+        let k : length rest ≡ length chunk - g.place = ap length g.left ∙ length-drop g.place chunk in
         record {
-          middle = g.middle;
-          from = g.from;
           text = g.text;
-          sent = g.sent;
-          empty = g.empty;
-          after = after;
-          written = g.written;
-          place = place_after next g.place chunk;
-          answered = goes_with _ _ _ t _ _ on out _ (rw (e, f));
-          some = within.0;
-          room = omega (arith, w.room);
+          unwritten = record {
+            place = g.place + u.place;
+            consumed = record {
+              some = omega (arith, u.consumed.some, g.answered.high);
+              answered = goes_on _ _ _ _ _ _ _ _ _ g.answered (goes_later chunk g.place rest r t (waiting t) u.place g.left g.answered.high u.consumed.answered);
+              room = u.consumed.room;
+            };
+          };
         }
-
--- then the lines up to the place were answered, from the chunk's start: what was written before, and what waits
-pub answered_so_far : (chunk : List ℕ) (s : Rehearsal) (before : Option (List ℕ)) (r : Rehearsal) (u : Unwritten chunk s before r)
-    → (min 1 (length chunk) ≤ u.place) × Goes chunk s 0 r (u.text ++ waiting r) u.place
-answered_so_far chunk s before r u = (omega (arith, u.some), goes_on _ _ _ _ _ _ _ _ _ u.sent u.answered)
 
 -- the end of the input
 module _ (s : Rehearsal) (b : Bool) (u : (p : List ℕ) → Held p s.line → malformed_if b ≡ unfinished p) (e : s.output.len ≡ 0) where

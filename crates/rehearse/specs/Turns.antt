@@ -1,5 +1,5 @@
 -- What the program's functions promise each other: however far they come in the input, what was written and what is still to come is the output.
-use Rattle.std.specs.Prelude.{◌≡◌, List, [], ◌++◌, ℕ, ◌+◌, ◌≤◌, ◌<◌, min, get_or, length, take, drop, Option, Some, None, IfSome}
+use Rattle.std.specs.Prelude.{◌≡◌, List, [], ◌++◌, ℕ, ◌≤◌, ◌<◌, min, get_or, length, take, drop, Option, Some, None, IfSome}
 use Rattle.std.specs.Io.KnownBytes.{Appends}
 use Rattle.schedule.specs.declared.Command.{Command}
 use Rattle.schedule.specs.Input.{Held}
@@ -59,6 +59,31 @@ pub record Turned (chunk : List ℕ) (s r : Rehearsal) (next : Option ℕ) : Typ
   pub room : r.output.len ≤ 65536
   pub went : (p : List ℕ) → Held p s.line → Went (stand s p) (waiting s) chunk r (waiting r) (left_of next chunk)
 
+-- from one place in a chunk to another, whatever line is pending: the text is the answers to the lines that end between them
+pub record Goes (chunk : List ℕ) (s : Rehearsal) (from : ℕ) (r : Rehearsal) (text : List ℕ) (place : ℕ) : Type 0 where
+  pub low : from ≤ place
+  pub high : place ≤ length chunk
+  pub went : (p : List ℕ) → Held p s.line → Went (stand s p) [] (drop from chunk) r text (drop place chunk)
+
+-- a chunk up to a place past its first byte: w of its answers was written, and the others wait, all of them
+pub record Consumed (chunk : List ℕ) (s : Rehearsal) (w : List ℕ) (r : Rehearsal) (place : ℕ) : Type 0 where
+  pub some : min 1 (length chunk) ≤ place
+  pub answered : Goes chunk s 0 r (w ++ waiting r) place
+  pub room : r.output.len ≤ 65536
+
+-- the same, where the writer got all of them, and nothing waits
+pub record Passed (chunk : List ℕ) (s : Rehearsal) (before : Option (List ℕ)) (r : Rehearsal) (after : Option (List ℕ)) (place : ℕ) : Type 0 where
+  pub text : List ℕ
+  pub some : min 1 (length chunk) ≤ place
+  pub answered : Goes chunk s 0 r text place
+  pub empty : r.output.len ≡ 0
+  pub written : Appends before after text
+
+-- where the output fails: the lines up to a place were answered all the same
+pub record Unwritten (chunk : List ℕ) (s : Rehearsal) (w : List ℕ) (r : Rehearsal) : Type 0 where
+  pub place : ℕ
+  pub consumed : Consumed chunk s w r place
+
 -- a whole chunk
 pub record Drained (chunk : List ℕ) (s r : Rehearsal) : Type 0 where
   pub text : List ℕ
@@ -70,26 +95,10 @@ pub record DrainedInto (chunk : List ℕ) (s : Rehearsal) (before : Option (List
   pub empty : r.output.len ≡ 0
   pub written : Appends before after drained.text
 
--- from one place in a chunk to another, whatever line is pending: the text is the answers to the lines that end between them
-pub record Goes (chunk : List ℕ) (s : Rehearsal) (from : ℕ) (r : Rehearsal) (text : List ℕ) (place : ℕ) : Type 0 where
-  pub low : from ≤ place
-  pub high : place ≤ length chunk
-  pub went : (p : List ℕ) → Held p s.line → Went (stand s p) [] (drop from chunk) r text (drop place chunk)
-
--- where the output fails: the lines up to a place were answered all the same. The middle is where the last write went well, or where the chunk began:
--- the answers up to there were written, and those since then wait, and nothing else. How much of these the writer got is not known
-pub record Unwritten (chunk : List ℕ) (s : Rehearsal) (before : Option (List ℕ)) (r : Rehearsal) : Type 0 where
-  pub middle : Rehearsal
-  pub from : ℕ
+-- where its output fails: some of its answers may have been written before
+pub record Stopped (chunk : List ℕ) (s r : Rehearsal) : Type 0 where
   pub text : List ℕ
-  pub sent : Goes chunk s 0 middle text from
-  pub empty : middle.output.len ≡ 0
-  pub after : Option (List ℕ)
-  pub written : Appends before after text
-  pub place : ℕ
-  pub answered : Goes chunk middle from r (waiting r) place
-  pub some : min (from + 1) (length chunk) ≤ place
-  pub room : r.output.len ≤ 65536
+  pub unwritten : Unwritten chunk s text r
 
 -- before the first line
 pub record Fresh (s : Rehearsal) : Type 0 where

@@ -1,13 +1,13 @@
 // Runs a schedule: each line of standard input is a call on one of two machines, answered by a line on standard output.
 #![tactic(auto)]
 
-ghost use Rattle.std.specs.Prelude.{◌≡◌, List, ℕ, ◌≤◌, ◌<◌, length, take, IfOk, OnOk, OnErr};
+ghost use Rattle.std.specs.Prelude.{◌≡◌, List, [], ℕ, ◌≤◌, ◌<◌, length, take, IfOk, OnOk, OnErr};
 ghost use Rattle.std.specs.Io.{ReadsAtMost};
 ghost use Rattle.std.specs.Io.KnownBytes.{Consumes, IsAtEnd};
 ghost use Rattle.schedule.specs.Lines.{command_of};
 ghost use Rattle.schedule.specs.Input.{Held};
 ghost use Rattle.rehearse.specs.Rehearsal.{in_force};
-ghost use Rattle.rehearse.specs.Turns.{Answered, Turned, DrainedInto, Fresh, EndedIn, Rehearsed, Rehearses, Unwritten};
+ghost use Rattle.rehearse.specs.Turns.{Answered, Turned, Consumed, Passed, Unwritten, DrainedInto, Stopped, Fresh, EndedIn, Rehearsed, Rehearses};
 
 mod calls; // calls.rt: the call that a line is, on the machine that it names
 mod failure; // failure.rt: what ends the program before the end of its input
@@ -88,20 +88,45 @@ impl Rehearsal {
         Some(next)
     }
 
-    // All of a chunk, and writes its answers. Where that fails it does not go on.
+    // The lines of a chunk until it ends or the output is full: the place after them.
+    fn consume(&mut self, chunk: &[u8]) -> usize
+        requires { self.old.output.len ≡ 0 }
+        ensures { Consumed chunk.now self.old [] self.new result }
+    {
+        let mut at = 0;
+        while let Some(next) = self.turn(&chunk[at..]) {
+            at += next;
+            if self.output.is_full() {
+                return at;
+            }
+        }
+        chunk.len()
+    }
+
+    // The same, and writes their answers. Where that fails it does not go on.
+    #[tactic(auto, using(crate::proofs::Turns::passed))]
+    fn pass<W: Write>(&mut self, writer: &mut W, chunk: &[u8]) -> Result<usize, Failure>
+        requires { self.old.output.len ≡ 0 }
+        ensures passed { IfOk result (λ at. Passed chunk.now self.old (W.contents writer.old) self.new (W.contents writer.new) at) }
+        ensures unwritten { OnErr result (Unwritten chunk.now self.old [] self.new) }
+    {
+        let at = self.consume(chunk);
+        self.output.flush(writer)?;
+        Ok(at)
+    }
+
+    // All of a chunk.
     fn drain<W: Write>(&mut self, writer: &mut W, chunk: &[u8]) -> Result<(), Failure>
         requires { self.old.output.len ≡ 0 }
         ensures drained { OnOk result (DrainedInto chunk.now self.old (W.contents writer.old) self.new (W.contents writer.new)) }
-        ensures unwritten { OnErr result (Unwritten chunk.now self.old (W.contents writer.old) self.new) }
+        ensures stopped { OnErr result (Stopped chunk.now self.old self.new) }
     {
         let mut rest = chunk;
-        while let Some(next) = self.turn(rest) {
-            rest = &rest[next..];
-            if self.output.is_full() {
-                self.output.flush(writer)?;
-            }
+        while !rest.is_empty() {
+            let at = self.pass(writer, rest)?;
+            rest = &rest[at..];
         }
-        self.output.flush(writer)
+        Ok(())
     }
 
     // The answer to a last line without its end.
