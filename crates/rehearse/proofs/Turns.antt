@@ -1,5 +1,5 @@
 -- Turns over a chunk: each meets a line end or the chunk's end, and what was to come goes on.
-use Rattle.std.proofs.Common.{◌≡◌, refl, sym, ap, ◌∙◌, List, [], ◌∷◌, ◌++◌, append_assoc, append-nil, ℕ, ◌+◌, ◌<◌, ◌≤◌, arith, length, length-drop, IfSome, min, ◌-◌, drop, Option, Some, None, Bool, true, false}
+use Rattle.std.proofs.Common.{◌≡◌, refl, sym, ap, ◌∙◌, List, [], ◌∷◌, ◌++◌, append_assoc, append-nil, ℕ, ◌+◌, ◌<◌, ◌≤◌, arith, length, length-drop, IfSome, min, ◌-◌, take, drop, Option, Some, None, Bool, true, false}
 use Rattle.std.proofs.lemmas.List.{drop-drop}
 use Rattle.std.proofs.Math.Seq.{drop-length}
 use Rattle.std.specs.Io.KnownBytes.{Appends}
@@ -148,11 +148,18 @@ module _ (chunk : List ℕ) (s r : Rehearsal) (place : ℕ) (g : Consuming chunk
   pub consuming : t.output.len ≤ 65389 → Consuming chunk s t (place_after next place chunk)
   consuming h = record { room = h; answered = consumed.answered }
 
--- ---- the output is written, or is not
-module _ (chunk : List ℕ) (s t : Rehearsal) (place : ℕ) (g : Consumed chunk s [] t place) (out : Output) where
-  pub passed : (before after : Option (List ℕ)) → Appends before after (waiting t) → out.len ≡ 0 → Passed chunk s before (record t { output = out }) after place
-  passed before after a e =
-      record { text = waiting t; some = g.some; answered = goes_with _ _ _ t _ _ g.answered out _ refl; empty = e; written = a }
+-- ---- the output is written
+pub passed : (chunk : List ℕ) (s t : Rehearsal) (place : ℕ) → Consumed chunk s [] t place → (out : Output) → out.bytes ≡ t.output.bytes
+    → (before after : Option (List ℕ)) → Appends before after (waiting t) → out.len ≡ 0 → Passed chunk s before (record t { output = out }) after place
+passed chunk s t place g out f before after a e =
+    record {
+      size = t.output.len;
+      room = g.room;
+      some = g.some;
+      answered = goes_with _ _ _ t _ _ g.answered out _ (rw f);
+      empty = e;
+      written = rw f a;
+    }
 
 -- ---- passes over a chunk
 pub record Draining (chunk : List ℕ) (s : Rehearsal) (before : Option (List ℕ)) (r : Rehearsal) (after : Option (List ℕ)) (rest : List ℕ) : Type 0 where
@@ -173,9 +180,9 @@ module _ (chunk : List ℕ) (s : Rehearsal) (before : Option (List ℕ)) where
         → Draining chunk s before t later more
     one_pass t later n w more m =
         record {
-          text = g.text ++ w.text;
+          text = g.text ++ take w.size t.output.bytes;
           place = g.place + n;
-          answered = goes_on _ _ _ _ _ _ _ _ _ g.answered (goes_later chunk g.place rest r t w.text n g.left g.answered.high w.answered);
+          answered = goes_on _ _ _ _ _ _ _ _ _ g.answered (goes_later chunk g.place rest r t (take w.size t.output.bytes) n g.left g.answered.high w.answered);
           empty = w.empty;
           written = Appends-trans _ _ _ _ _ g.written w.written;
           left = m ∙ ap (λ (z : List ℕ). drop n z) g.left ∙ drop-drop n g.place chunk;

@@ -65,19 +65,20 @@ pub record Goes (chunk : List ℕ) (s : Rehearsal) (from : ℕ) (r : Rehearsal) 
   pub high : place ≤ length chunk
   pub went : (p : List ℕ) → Held p s.line → Went (stand s p) [] (drop from chunk) r text (drop place chunk)
 
--- a chunk up to a place past its first byte: w of its answers was written, and the others wait, all of them
+-- a chunk up to a place past its first byte: its answers are w, and then what waits
 pub record Consumed (chunk : List ℕ) (s : Rehearsal) (w : List ℕ) (r : Rehearsal) (place : ℕ) : Type 0 where
   pub some : min 1 (length chunk) ≤ place
   pub answered : Goes chunk s 0 r (w ++ waiting r) place
   pub room : r.output.len ≤ 65536
 
--- the same, where the writer got all of them, and nothing waits
+-- the same, where the writer got all of them: they still stand first in the output, but wait no more
 pub record Passed (chunk : List ℕ) (s : Rehearsal) (before : Option (List ℕ)) (r : Rehearsal) (after : Option (List ℕ)) (place : ℕ) : Type 0 where
-  pub text : List ℕ
+  pub size : ℕ
+  pub room : size ≤ 65536
   pub some : min 1 (length chunk) ≤ place
-  pub answered : Goes chunk s 0 r text place
+  pub answered : Goes chunk s 0 r (take size r.output.bytes) place
   pub empty : r.output.len ≡ 0
-  pub written : Appends before after text
+  pub written : Appends before after (take size r.output.bytes)
 
 -- where the output fails: the lines up to a place were answered all the same
 pub record Unwritten (chunk : List ℕ) (s : Rehearsal) (w : List ℕ) (r : Rehearsal) : Type 0 where
@@ -95,7 +96,7 @@ pub record DrainedInto (chunk : List ℕ) (s : Rehearsal) (before : Option (List
   pub empty : r.output.len ≡ 0
   pub written : Appends before after drained.text
 
--- where its output fails: some of its answers may have been written before
+-- where its output fails: its answers are some text, of which this says no more, and then what waits
 pub record Stopped (chunk : List ℕ) (s r : Rehearsal) : Type 0 where
   pub text : List ℕ
   pub unwritten : Unwritten chunk s text r
