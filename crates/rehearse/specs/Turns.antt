@@ -65,7 +65,7 @@ pub record Goes (chunk : List ℕ) (s : Rehearsal) (from : ℕ) (r : Rehearsal) 
   pub high : place ≤ length chunk
   pub went : (p : List ℕ) → Held p s.line → Went (stand s p) [] (drop from chunk) r text (drop place chunk)
 
--- a chunk up to a place past its first byte: its answers are w, and then what waits
+-- a chunk up to a place, past its first byte if it has one: the answers to its lines up to there are w, and then what waits
 pub record Consumed (chunk : List ℕ) (s : Rehearsal) (w : List ℕ) (r : Rehearsal) (place : ℕ) : Type 0 where
   pub some : min 1 (length chunk) ≤ place
   pub answered : Goes chunk s 0 r (w ++ waiting r) place
@@ -96,7 +96,7 @@ pub record DrainedInto (chunk : List ℕ) (s : Rehearsal) (before : Option (List
   pub empty : r.output.len ≡ 0
   pub written : Appends before after drained.text
 
--- where its output fails: its answers are some text, of which this says no more, and then what waits
+-- where its output fails: the answers up to a place are some text, of which this says no more, and then what waits
 pub record Stopped (chunk : List ℕ) (s r : Rehearsal) : Type 0 where
   pub text : List ℕ
   pub unwritten : Unwritten chunk s text r
