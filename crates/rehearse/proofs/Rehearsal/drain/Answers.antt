@@ -1,5 +1,5 @@
-use Rattle.std.proofs.lemmas.Result.{err_from_is_err_and}
 use Rattle.std.proofs.Common.{rules}
+use Rattle.std.proofs.lemmas.Result.{err_from_is_err_and}
 use Rattle.std.proofs.lemmas.List.{take_rest, nil_from_length}
 use Rattle.rehearse.proofs.Turns.{no_pass, one_pass, drained, stopped}
 use Rattle.rehearse.proofs.Rehearsal.drain.Goals as goal
